@@ -1,0 +1,79 @@
+// The types of the search, of which document 01 speaks. There is no function here: see specs/.
+
+// An opening: the method, the first end x0, the second end x1 and the tolerance. A sheet may hold any of them out of range.
+pub struct Opening {
+    pub method: i32,
+    pub first: i32,
+    pub second: i32,
+    pub tolerance: i32,
+}
+
+// Algorithms M and R of Bus and Dekker.
+pub enum Method {
+    M,
+    R,
+}
+
+// A point with its value F(p).
+pub struct Sample {
+    pub point: u32,
+    pub value: i32,
+}
+
+// What a search knows from its second answer on. b is `better`, c `other`, a `previous`, d `third`; `last` is the point answered
+// last, `streak` is s, and `taken` counts the answers.
+pub struct Bracket {
+    pub better: Sample,
+    pub other: Sample,
+    pub previous: Sample,
+    pub third: Sample,
+    pub last: Sample,
+    pub streak: u32,
+    pub taken: u32,
+}
+
+// The exact fraction u = num / den, of either sign. Where den is 0, there is no estimate.
+pub struct Fraction {
+    pub num: i64,
+    pub den: i64,
+}
+
+// What a step takes its displacement from.
+pub enum Step {
+    Linear,
+    Rational,
+    Doubled,
+    Bisection,
+}
+
+// Where a search stands after the answers so far.
+pub enum Progress {
+    Begun,
+    First { value: i32 },
+    Bracketed { bracket: Bracket },
+    Refused { number: u32, place: u32 },
+}
+
+// What is told of a search: the next point, the stop, or a refusal.
+pub enum Report {
+    Next {
+        point: u32,
+        taken: u32,
+    },
+    Stop {
+        lower: u32,
+        upper: u32,
+        better: u32,
+        taken: u32,
+    },
+    Refused {
+        number: u32,
+        place: u32,
+    },
+}
+
+// What is told of an opening before the first trial: t and the most answers that may be needed, or a refusal.
+pub enum Quote {
+    Quoted { t: u32, most: u32 },
+    Refused { number: u32, place: u32 },
+}
