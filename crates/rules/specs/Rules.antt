@@ -71,8 +71,12 @@ lowerOf k = min (k .better .point) (k .other .point)
 abbrev pub upperOf : Bracket → ℕ
 upperOf k = max (k .better .point) (k .other .point)
 
+-- |p − q|
+abbrev pub gapOf : ℕ → ℕ → ℕ
+gapOf p q = (p - q) + (q - p)
+
 abbrev pub widthOf : Bracket → ℕ
-widthOf k = upperOf k - lowerOf k
+widthOf k = gapOf (k .better .point) (k .other .point)
 
 -- ---- Rule 2: the search stops when L ≤ 2τ
 
@@ -178,7 +182,7 @@ renewedOf k x b c a =
       previous = a;
       third = thirdOf k x b;
       last = x;
-      streak = streakOf (widthOf k) (max (b .point) (c .point) - min (b .point) (c .point)) (k .streak);
+      streak = streakOf (widthOf k) (gapOf (b .point) (c .point)) (k .streak);
       taken = k .taken + 1;
     }
 

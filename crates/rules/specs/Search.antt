@@ -1,8 +1,8 @@
 -- The search over a list of values, from scratch: where it stands after the values so far, the report on that, and the quote.
 -- Assumes nothing.
-use Prim.Native.Nat.{ℕ, _+_, _-_, _*_, _/_, min, max}
+use Prim.Native.Nat.{ℕ, _+_, _-_, _*_, _/_}
 use mathlib.Core.Bool.{Bool, true, false, cond}
-use mathlib.Core.List.{List, [], _∷_}
+use mathlib.Core.List.{List, [], _∷_, foldl}
 use lib.Dec.{eqb}
 use lib.IntN.{ℤ, pos, natAbs}
 use Rattle.integers.specs.Digits.{digits}
@@ -12,7 +12,7 @@ use Rattle.rules.specs.declared.Bracket.{Bracket}
 use Rattle.rules.specs.declared.Progress.{Progress}
 use Rattle.rules.specs.declared.Report.{Report}
 use Rattle.rules.specs.declared.Quote.{Quote}
-use Rattle.rules.specs.Rules.{methodOf, firstOf, secondOf, startOf, lowerOf, upperOf, stoppedOf, nextOf, advanceOf, allowed}
+use Rattle.rules.specs.Rules.{methodOf, firstOf, secondOf, startOf, lowerOf, upperOf, gapOf, stoppedOf, nextOf, advanceOf, allowed}
 use Rattle.rules.specs.Refusals.{openingRefusal, answerRefusal, tooLarge, sameSide}
 
 -- ---- where a search stands
@@ -76,12 +76,8 @@ unfoldable pub takeOf : Opening → Progress → ℤ → Progress
 takeOf o p v = offerOf o p false v
 
 -- the values in turn
-unfoldable pub progressFrom : Opening → Progress → List ℤ → Progress
-progressFrom o p [] = p
-progressFrom o p (v ∷ vs) = progressFrom o (takeOf o p v) vs
-
 unfoldable pub progressOf : Opening → List ℤ → Progress
-progressOf o vs = progressFrom o (beginOf o) vs
+progressOf o vs = foldl (takeOf o) (beginOf o) vs
 
 -- ---- the report
 
@@ -104,7 +100,7 @@ reportOf o vs = reportAt o (progressOf o vs)
 
 -- the distance between the ends
 abbrev pub distanceOf : Opening → ℕ
-distanceOf o = max (firstOf o) (secondOf o) - min (firstOf o) (secondOf o)
+distanceOf o = gapOf (firstOf o) (secondOf o)
 
 -- the number of binary digits of the whole part of (W − 1)/(2τ); none for zero
 unfoldable pub turnsOf : ℕ → ℕ → ℕ

@@ -10,7 +10,7 @@ use Rattle.rules.specs.declared.Report.{Report}
 use Rattle.rules.specs.declared.Report.the-variants.{Next, Stop, Refused}
 use Rattle.rules.specs.Rules.{methodOf, toleranceAt, startOf, stoppedOf, forwardOf, displacementOf, linearOf, crossOf, rationalOf, doubledOf, opposed, partnerOf, streakOf, renewedOf, advanceOf, stepOf, reachOf, offsetOf, nextOf}
 use Rattle.rules.specs.Refusals.{openingRefusal, answerRefusal, sameSide}
-use Rattle.rules.specs.Search.{beginOf, offerOf, takeOf, progressFrom, progressOf, bracketReport, reportAt, reportOf}
+use Rattle.rules.specs.Search.{beginOf, offerOf, takeOf, progressOf, bracketReport, reportAt, reportOf}
 
 pub record Trial : Type 0 where
   pub opening : Opening
@@ -49,5 +49,5 @@ AllHold [] = Unit {0}
 AllHold (t ∷ ts) = (reportOf (t .opening) (t .values) ≡ t .report) × AllHold ts
 
 pub trials-hold : AllHold trials
-unfolding methodOf toleranceAt startOf stoppedOf forwardOf displacementOf linearOf crossOf rationalOf doubledOf opposed partnerOf streakOf renewedOf advanceOf stepOf reachOf offsetOf nextOf openingRefusal answerRefusal sameSide beginOf offerOf takeOf progressFrom progressOf bracketReport reportAt reportOf
+unfolding methodOf toleranceAt startOf stoppedOf forwardOf displacementOf linearOf crossOf rationalOf doubledOf opposed partnerOf streakOf renewedOf advanceOf stepOf reachOf offsetOf nextOf openingRefusal answerRefusal sameSide beginOf offerOf takeOf progressOf bracketReport reportAt reportOf
 trials-hold = (refl, (refl, (refl, (refl, (refl, (refl, (refl, (refl, (refl, (refl, (refl, (refl, tt))))))))))))
