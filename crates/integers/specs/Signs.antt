@@ -45,12 +45,13 @@ positive-of-neither (negsuc n) e f = never f
 abbrev pub crosses : ℤ → ℤ → Bool
 crosses v w = leZ (v *ℤ w) (pos 0)
 
-negated : (n : ℕ) → leZ (negℤ (pos n)) (pos 0) ≡ true
+pub negated : (n : ℕ) → leZ (negℤ (pos n)) (pos 0) ≡ true
 negated zero = refl
 negated (suc n) = refl
 
-above : {X : Type 0} (w z : ℕ) → suc w * suc z ≤ 0 → X
-above w z h = absurd (omega (arith, mul-pos {m = suc w} {n = suc z} (omega arith) (omega arith)))
+-- the product of two numbers above zero is above zero
+pub product-above : {X : Type 0} (w z : ℕ) → suc w * suc z ≤ 0 → X
+product-above w z h = absurd (omega (arith, mul-pos {m = suc w} {n = suc z} (omega arith) (omega arith)))
 
 pub crosses-comm : (v w : ℤ) → crosses v w ≡ crosses w v
 crosses-comm v w = ap (λ (z : ℤ). leZ z (pos 0)) (*ℤ-comm v w)
@@ -59,9 +60,9 @@ crosses-comm v w = ap (λ (z : ℤ). leZ z (pos 0)) (*ℤ-comm v w)
 pub crosses-turn : (v w z : ℤ) → crosses v w ≡ false → crosses w z ≡ true → crosses v z ≡ true
 crosses-turn (pos v) (pos zero) (pos z) e f = let h = leb-false (v * zero) 0 e in absurd (omega arith)
 crosses-turn (pos v) (pos (suc w)) (pos zero) e f = le-leb (v * zero) 0 (omega arith)
-crosses-turn (pos v) (pos (suc w)) (pos (suc z)) e f = above w z (leb-true (suc w * suc z) 0 f)
+crosses-turn (pos v) (pos (suc w)) (pos (suc z)) e f = product-above w z (leb-true (suc w * suc z) 0 f)
 crosses-turn (pos v) (pos w) (negsuc z) e f = negated (v * suc z)
 crosses-turn (pos v) (negsuc w) z e f = never (sym (negated (v * suc w)) ∙ e)
 crosses-turn (negsuc v) (pos w) z e f = never (sym (negated (suc v * w)) ∙ e)
 crosses-turn (negsuc v) (negsuc w) (pos z) e f = negated (suc v * z)
-crosses-turn (negsuc v) (negsuc w) (negsuc z) e f = above w z (leb-true (suc w * suc z) 0 f)
+crosses-turn (negsuc v) (negsuc w) (negsuc z) e f = product-above w z (leb-true (suc w * suc z) 0 f)

@@ -1,6 +1,9 @@
 pub mod Rules
 pub mod Refusals
-pub mod RulesLaws
 pub mod Search
+pub mod RulesLaws
+pub mod RefusalsLaws
 pub mod BoundLaws
+pub mod SearchLaws
 pub mod Trials
+mod Examples

@@ -217,13 +217,13 @@ module _ (k : Bracket) (x : Sample) (D : ℕ) (held : Held k) (ahead : Ahead k D
             counted = refl;
           }
 
-  pub advance-taken : advanceOf k x .taken ≡ k .taken + 1
-  unfolding advanceOf renewedOf
-  advance-taken = go (closer x (partnerOf k x))
-    where
-      go : (b : Bool) → cond b (renewedOf k x x (partnerOf k x) (k .better)) (renewedOf k x (partnerOf k x) x x) .taken ≡ k .taken + 1
-      go true = refl
-      go false = refl
+pub advance-taken : (k : Bracket) (x : Sample) → advanceOf k x .taken ≡ k .taken + 1
+unfolding advanceOf renewedOf
+advance-taken k x = go (closer x (partnerOf k x))
+  where
+    go : (b : Bool) → cond b (renewedOf k x x (partnerOf k x) (k .better)) (renewedOf k x (partnerOf k x) x x) .taken ≡ k .taken + 1
+    go true = refl
+    go false = refl
 
 -- ---- Rule 1: the first bracket
 

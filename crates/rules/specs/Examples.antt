@@ -1,0 +1,125 @@
+-- Worked examples of single definitions, each by computation.
+-- Assumes nothing.
+use mathlib.Core.Path.{_≡_, refl}
+use mathlib.Core.Bool.{Bool, true, false}
+use lib.IntN.{ℤ, pos, negℤ}
+use Rattle.integers.specs.Digits.{digits, digitsWithin}
+use Rattle.rules.specs.declared.Opening.{Opening}
+use Rattle.rules.specs.declared.Sample.{Sample}
+use Rattle.rules.specs.declared.Bracket.{Bracket}
+use Rattle.rules.specs.declared.Fraction.{Fraction}
+use Rattle.rules.specs.declared.Quote.{Quote}
+use Rattle.rules.specs.Rules.{methodOf, forwardOf, displacementOf, atBetter, noEstimate, linearOf, crossOf, rationalOf, doubledOf, opposed, partnerOf, streakOf}
+use Rattle.rules.specs.Refusals.{openingRefusal, answerRefusal}
+use Rattle.rules.specs.Search.{turnsOf, quoteOf}
+
+abbrev over : ℤ → ℤ → Fraction
+over num den = record { num = num; den = den }
+
+-- ---- Rule 3, at τ = 3 and L = 21: u below 0, at 0, at τ, just above τ, rounded down, at L/2, above L/2; a denominator below 0
+
+below-zero : displacementOf 3 21 (over (negℤ (pos 1)) (pos 8)) ≡ 10
+unfolding displacementOf forwardOf
+below-zero = refl
+
+at-zero : displacementOf 3 21 atBetter ≡ 3
+unfolding displacementOf forwardOf
+at-zero = refl
+
+at-tolerance : displacementOf 3 21 (over (pos 24) (pos 8)) ≡ 3
+unfolding displacementOf forwardOf
+at-tolerance = refl
+
+rounded-down : displacementOf 3 21 (over (pos 79) (pos 8)) ≡ 9
+unfolding displacementOf forwardOf
+rounded-down = refl
+
+rounded-down-under : displacementOf 3 21 (over (negℤ (pos 79)) (negℤ (pos 8))) ≡ 9
+unfolding displacementOf forwardOf
+rounded-down-under = refl
+
+above-half : displacementOf 3 21 (over (pos 85) (pos 8)) ≡ 10
+unfolding displacementOf forwardOf
+above-half = refl
+
+no-estimate : displacementOf 3 21 noEstimate ≡ 10
+unfolding displacementOf forwardOf
+no-estimate = refl
+
+-- ---- Rules 4 and 5
+
+abbrev at : ℤ → Sample
+at v = record { point = 40; value = v }
+
+abbrev before : ℤ → Sample
+before v = record { point = 33; value = v }
+
+abbrev far : ℤ → Sample
+far v = record { point = 100; value = v }
+
+linear-zero : linearOf (at (pos 0)) (before (pos 0)) true ≡ atBetter
+unfolding linearOf
+linear-zero = refl
+
+linear-level : linearOf (at (pos 7)) (before (pos 7)) true ≡ noEstimate
+unfolding linearOf
+linear-level = refl
+
+-- S = −5 · (−10 − 100) · (40 − 100) and Q = S − (−10)(−5 − 100)(33 − 100)
+rational-by-hand : rationalOf (at (negℤ (pos 5))) (before (negℤ (pos 10))) (far (pos 100)) true ≡ over (pos 231000) (pos 37350)
+unfolding rationalOf crossOf
+rational-by-hand = refl
+
+-- S = Q = 0: the estimate is b
+rational-zero : rationalOf (at (pos 0)) (before (pos 0)) (far (pos 9)) true ≡ atBetter
+unfolding rationalOf crossOf
+rational-zero = refl
+
+-- only Q = 0: S is −9 (9 − 3) 20, and so is F(a)(F(b) − F(d))(a − d)
+rational-level : rationalOf (at (negℤ (pos 9))) (record { point = 30; value = pos 9 }) (record { point = 20; value = pos 3 }) true ≡ noEstimate
+unfolding rationalOf crossOf
+rational-level = refl
+
+-- ---- Rule 7: an odd bracket cut in the middle halves, whichever part is kept
+
+odd-smaller : streakOf 57 28 2 ≡ 0
+unfolding streakOf
+odd-smaller = refl
+
+odd-larger : streakOf 57 29 2 ≡ 0
+unfolding streakOf
+odd-larger = refl
+
+one-too-wide : streakOf 57 30 2 ≡ 3
+unfolding streakOf
+one-too-wide = refl
+
+-- ---- the quote
+
+abbrev opening : ℤ → ℤ → Opening
+opening method tolerance = record { method = method; first = pos 20000; second = pos 0; tolerance = tolerance }
+
+whole-range-by-M : quoteOf (opening (pos 0) (pos 1)) ≡ Quote.Quoted 14 58
+unfolding quoteOf openingRefusal methodOf turnsOf digits digitsWithin
+whole-range-by-M = refl
+
+whole-range-by-R : quoteOf (opening (pos 2) (pos 1)) ≡ Quote.Quoted 14 72
+unfolding quoteOf openingRefusal methodOf turnsOf digits digitsWithin
+whole-range-by-R = refl
+
+largest-tolerance : quoteOf (opening (pos 1) (pos 5000)) ≡ Quote.Quoted 1 6
+unfolding quoteOf openingRefusal methodOf turnsOf digits digitsWithin
+largest-tolerance = refl
+
+quote-refused : quoteOf (opening (pos 1) (pos 0)) ≡ Quote.Refused 4 0
+unfolding quoteOf openingRefusal
+quote-refused = refl
+
+-- t is 0 up to W = 2τ, and 1 from 2τ + 1 on
+within-tolerance : turnsOf 5 10 ≡ 0
+unfolding turnsOf digits digitsWithin
+within-tolerance = refl
+
+just-beyond : turnsOf 5 11 ≡ 1
+unfolding turnsOf digits digitsWithin
+just-beyond = refl

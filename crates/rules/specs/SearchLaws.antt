@@ -1,0 +1,300 @@
+-- The laws of the search over a list, for every accepted opening and every list of values: where the next point lies, how brackets
+-- nest, what their values are, how long a streak may be and how many answers are needed. M and R share them: the allowed streak is
+-- a parameter.
+-- Assumes nothing.
+use Prim.Native.Nat.{ℕ, zero, suc, _+_, _-_, _*_, _/_, _^_, _≤_, _<_, min, max}
+use mathlib.Core.Path.{_≡_, refl, sym, ap, subst, _∙_}
+use mathlib.Core.Bool.{Bool, true, false, cond, _||_}
+use mathlib.Core.List.{List, [], _∷_, _++_, foldl, foldl-append}
+use mathlib.Core.Logic.{_⊎_, inl, inr, ⊎-elim}
+use native.Mathlib.Nat.{le-refl, le-trans, mul-le-mul-left, add-zero, zero-add}
+use native.Mathlib.Omega.{arith}
+use borrow.Author.Tests.{eqb-true, eqb-false, leb-true, ltb-false, eq-eqb}
+use lib.Dec.{leb, ltb, eqb}
+use lib.ListN.{length, length-append}
+use lib.IntN.{ℤ, pos, negsuc, natAbs}
+use Rattle.integers.specs.Digits.{Least}
+use Rattle.integers.specs.Signs.{never}
+use Rattle.rules.specs.declared.Opening.{Opening}
+use Rattle.rules.specs.declared.Method.{Method}
+use Rattle.rules.specs.declared.Sample.{Sample}
+use Rattle.rules.specs.declared.Bracket.{Bracket}
+use Rattle.rules.specs.declared.Progress.{Progress}
+use Rattle.rules.specs.declared.Step.{Step}
+use Rattle.rules.specs.Rules.{highest, largestTolerance, largestValue, slots, methodOf, firstOf, secondOf, toleranceAt, closer, pairOf, startOf, lowerOf, upperOf, gapOf, widthOf, stoppedOf, opposed, partnerOf, thirdOf, streakOf, renewedOf, advanceOf, allowed, stepOf, reachOf, offsetOf, nextOf}
+use Rattle.rules.specs.RulesLaws.{Ahead, next-ahead, offset-in, going-wide, Held, Partner, partner-is, Inside, Advance, advance-is, advance-taken, Start, start-is, start-counts, Halves, bisection-halves, forced}
+use Rattle.rules.specs.Refusals.{openingRefusal, answerRefusal, tooLarge, sameSide, Accepted}
+use Rattle.rules.specs.RefusalsLaws.{Opened, opened, Passed, answer-passed, crossing-opposed, opposed-crossing}
+use Rattle.rules.specs.Search.{beginOf, stoppedAt, sameSideAt, takenOf, pointAt, enteredAt, answeredAt, offerOf, takeOf, progressOf, distanceOf, tOf, mostOf}
+use Rattle.rules.specs.BoundLaws.{turns-least, turns-few, Bound, bound-start, bound-below, bound-step}
+
+-- ---- what is known of a bracket that answers have led to
+
+pub record Limited (s : Sample) : Type 0 where
+  pub point : s .point ≤ highest
+  pub value : natAbs (s .value) ≤ largestValue
+
+pub record Limits (k : Bracket) : Type 0 where
+  pub better : Limited (k .better)
+  pub other : Limited (k .other)
+  pub previous : Limited (k .previous)
+  pub third : Limited (k .third)
+
+pub record Sound (o : Opening) (k : Bracket) : Type 0 where
+  pub held : Held k
+  pub closest : natAbs (k .better .value) ≤ natAbs (k .other .value)
+  pub limits : Limits k
+  pub counted : k .streak + 2 ≤ k .taken
+  pub bound : Bound (allowed (methodOf o)) (natAbs (o .tolerance)) (distanceOf o) (k .taken) (widthOf k) (k .streak)
+
+-- ---- one step
+
+-- the one lemma on the tolerance at b that the bound rests on
+pub tolerance-least : (o : Opening) (b : ℕ) → natAbs (o .tolerance) ≤ toleranceAt o b
+unfolding toleranceAt
+tolerance-least o b = le-refl _
+
+pub going-wider : (o : Opening) (k : Bracket) → stoppedOf o k ≡ false → 2 * natAbs (o .tolerance) < widthOf k
+going-wider o k g = omega (arith, going-wide o k g, tolerance-least o (k .better .point))
+
+third-limited : (k : Bracket) (x b : Sample) → Limits k → Limited (thirdOf k x b)
+third-limited k x b l = go (eqb (b .point) (x .point) || eqb (b .point) (k .better .point))
+  where
+    go : (t : Bool) → Limited (cond t (k .previous) (k .better))
+    go true = l .previous
+    go false = l .better
+
+end-limited : (k : Bracket) {p : Sample} → Limits k → (p ≡ k .better) ⊎ (p ≡ k .other) → Limited p
+end-limited k l (inl e) = subst Limited (sym e) (l .better)
+end-limited k l (inr e) = subst Limited (sym e) (l .other)
+
+limits-advance : (k : Bracket) (x : Sample) → Held k → Limits k → Limited x → Limits (advanceOf k x)
+unfolding advanceOf renewedOf
+limits-advance k x h l m = go (closer x (partnerOf k x)) (end-limited k l (partner-is k x h .end))
+  where
+    go : (b : Bool) → Limited (partnerOf k x) → Limits (cond b (renewedOf k x x (partnerOf k x) (k .better)) (renewedOf k x (partnerOf k x) x x))
+    go true p = record { better = m; other = p; previous = l .better; third = third-limited k x x l }
+    go false p = record { better = p; other = m; previous = m; third = third-limited k x (partnerOf k x) l }
+
+streak-grows : (L new s : ℕ) → streakOf L new s ≤ s + 1
+unfolding streakOf
+streak-grows L new s = go (leb (2 * new) (L + 1))
+  where
+    go : (b : Bool) → cond b 0 (s + 1) ≤ s + 1
+    go true = omega arith
+    go false = omega arith
+
+module _ (o : Opening) (k : Bracket) (v : ℤ) (op : Opened o) (sound : Sound o k) (going : stoppedOf o k ≡ false) where
+  pub tolerance-some : 1 ≤ toleranceAt o (k .better .point)
+  tolerance-some = le-trans (op .tolerance .least) (tolerance-least o (k .better .point))
+
+  pub ahead : Ahead k (offsetOf o k) (nextOf o k)
+  ahead = next-ahead o k tolerance-some going
+
+  abbrev asked : Sample
+  asked = record { point = nextOf o k; value = v }
+
+  pub advanced : Advance k (offsetOf o k) (advanceOf k asked)
+  advanced = advance-is k asked (offsetOf o k) (sound .held) ahead
+
+  -- at the allowed streak the step is a bisection
+  bisected : k .streak ≡ allowed (methodOf o) → offsetOf o k ≡ widthOf k / 2
+  unfolding offsetOf reachOf
+  bisected e = rw (forced (methodOf o) (k .taken) (k .streak) (sound .counted) e)
+
+  pub forced-halves : k .streak ≡ allowed (methodOf o) → Halves (widthOf k) (widthOf (advanceOf k asked))
+  forced-halves e =
+      bisection-halves (widthOf k) (widthOf (advanceOf k asked)) (rw (bisected e) at (advanced .rest (offset-in o k going .high)))
+
+  asked-limited : natAbs v ≤ largestValue → Limited asked
+  asked-limited h = record { point = omega (arith, ahead .below, sound .limits .better .point, sound .limits .other .point); value = h }
+
+  pub sound-advance : natAbs v ≤ largestValue → Sound o (advanceOf k asked)
+  sound-advance h =
+      record {
+        held = advanced .held;
+        closest = advanced .closest;
+        limits = limits-advance k asked (sound .held) (sound .limits) (asked-limited h);
+        counted =
+            omega
+            (arith, advanced .counted, advance-taken k asked, streak-grows (widthOf k) (widthOf (advanceOf k asked)) (k .streak), sound .counted);
+        bound =
+            rw (advanced .counted, advance-taken k asked)
+            (bound-step _ _ _ _ _ _ (op .tolerance .least) (sound .bound) (going-wider o k going) (widthOf (advanceOf k asked)) (advanced .narrower) forced-halves);
+      }
+
+-- ---- the first bracket
+
+module _ (o : Opening) (u v : ℤ) (op : Opened o) where
+  abbrev begins : Sample
+  begins = record { point = firstOf o; value = u }
+
+  abbrev ends : Sample
+  ends = record { point = secondOf o; value = v }
+
+  limits-start : Limited begins → Limited ends → Limits (startOf begins ends)
+  unfolding startOf
+  limits-start p q = go (closer ends begins)
+    where
+      go : (b : Bool) → Limits (cond b (pairOf ends begins ends) (pairOf begins ends ends))
+      go true = record { better = q; other = p; previous = p; third = p }
+      go false = record { better = p; other = q; previous = q; third = q }
+
+  pub sound-start : natAbs u ≤ largestValue → natAbs v ≤ largestValue → sameSide u v ≡ false → Sound o (startOf begins ends)
+  sound-start h i e =
+      let s = start-is begins ends (op .apart) (crossing-opposed u v e) in
+      let n = start-counts begins ends in
+      record {
+        held = s .held;
+        closest = s .closest;
+        limits = limits-start (record { point = op .first .most; value = h }) (record { point = op .second .most; value = i });
+        counted = omega (arith, n .0, n .1);
+        bound = rw (n .0, n .1, s .wide) (bound-start _ _ _);
+      }
+
+-- ---- every list of values
+
+-- what is known after n values: of a refusal, that its index is that of a value
+abbrev pub SoundAt : Opening → ℕ → Progress → Type 0
+SoundAt o n Progress.Begun = n ≡ 0
+SoundAt o n (Progress.First v) = (n ≡ 1) × (natAbs v ≤ largestValue)
+SoundAt o n (Progress.Bracketed k) = (k .taken ≡ n) × Sound o k
+SoundAt o n (Progress.Refused m i) = i < n
+
+module _ (o : Opening) (op : Opened o) where
+  -- entered where no refusal applies, else refused with the index of the value
+  settled : (n : ℕ) (p : Progress) (other : Bool) (v : ℤ) → takenOf p ≡ n
+      → (Passed (stoppedAt o p) other (tooLarge v) (sameSideAt p v) → SoundAt o (n + 1) (enteredAt o p v))
+      → SoundAt o (n + 1) (answeredAt o p other v)
+  settled n p other v e f = go (eqb (answerRefusal (stoppedAt o p) other (tooLarge v) (sameSideAt p v)) 0) refl
+    where
+      go : (b : Bool) → eqb (answerRefusal (stoppedAt o p) other (tooLarge v) (sameSideAt p v)) 0 ≡ b
+          → SoundAt o (n + 1) (cond b (enteredAt o p v) (Progress.Refused (answerRefusal (stoppedAt o p) other (tooLarge v) (sameSideAt p v)) (takenOf p)))
+      go true h = f (answer-passed _ _ _ _ (eqb-true _ _ h))
+      go false h = omega arith
+
+  value-limited : (v : ℤ) → tooLarge v ≡ false → natAbs v ≤ largestValue
+  value-limited v e = ltb-false largestValue (natAbs v) e
+
+  pub sound-offer : (n : ℕ) (p : Progress) (other : Bool) (v : ℤ) → SoundAt o n p → SoundAt o (n + 1) (offerOf o p other v)
+  unfolding offerOf
+  sound-offer n Progress.Begun other v s =
+      settled n Progress.Begun other v (sym s) (λ q. (omega arith, value-limited v (q .ranged)))
+  sound-offer n (Progress.First u) other v s =
+      settled n (Progress.First u) other v (sym (s .0))
+      (λ q. (omega (arith, start-counts (begins o u v op) (ends o u v op) .1), sound-start o u v op (s .1) (value-limited v (q .ranged)) (q .crossing)))
+  sound-offer n (Progress.Bracketed k) other v s =
+      settled n (Progress.Bracketed k) other v (s .0)
+      (λ q. (omega (arith, advance-taken k (record { point = nextOf o k; value = v })), sound-advance o k v op (s .1) (q .going) (value-limited v (q .ranged))))
+  sound-offer n (Progress.Refused m i) other v s = omega arith
+
+  sound-fold : (n : ℕ) (p : Progress) (vs : List ℤ) → SoundAt o n p → SoundAt o (n + length vs) (foldl (takeOf o) p vs)
+  unfolding takeOf
+  sound-fold n p [] s = rw (add-zero n) s
+  sound-fold n p (v ∷ vs) s =
+      let e : (n + 1) + length vs ≡ n + length (v ∷ vs) = omega arith in
+      rw (← e) (sound-fold (n + 1) (offerOf o p false v) vs (sound-offer n p false v s))
+
+-- one value more
+pub progress-more : (o : Opening) (vs : List ℤ) (v : ℤ) → progressOf o (vs ++ (v ∷ [])) ≡ takeOf o (progressOf o vs) v
+unfolding progressOf
+progress-more o vs v = foldl-append (takeOf o) (beginOf o) vs (v ∷ [])
+
+-- a bracket comes after another only where the search goes on
+pub record Took (o : Opening) (k : Bracket) (v : ℤ) (k' : Bracket) : Type 0 where
+  pub going : stoppedOf o k ≡ false
+  pub bracket : k' ≡ advanceOf k (record { point = nextOf o k; value = v })
+
+bracketed : (a b : Bracket) → Progress.Bracketed a ≡ Progress.Bracketed b → a ≡ b
+bracketed a b e = cc
+
+pub took : (o : Opening) (k : Bracket) (v : ℤ) (k' : Bracket) → takeOf o (Progress.Bracketed k) v ≡ Progress.Bracketed k' → Took o k v k'
+unfolding takeOf offerOf
+took o k v k' = go (eqb (answerRefusal (stoppedOf o k) false (tooLarge v) false) 0) refl
+  where
+    go : (b : Bool) → eqb (answerRefusal (stoppedOf o k) false (tooLarge v) false) 0 ≡ b
+        → cond b (Progress.Bracketed (advanceOf k (record { point = nextOf o k; value = v }))) (Progress.Refused (answerRefusal (stoppedOf o k) false (tooLarge v) false) (k .taken)) ≡ Progress.Bracketed k'
+        → Took o k v k'
+    go true h e = record { going = answer-passed _ _ _ _ (eqb-true _ _ h) .going; bracket = sym (bracketed _ _ e) }
+    go false h e = let z : _≡_ {A = ℕ} 0 1 = cc in absurd (omega arith)
+
+-- ---- the laws
+
+module _ (o : Opening) (accepted : Accepted o) where
+  pub sound : (vs : List ℤ) → SoundAt o (length vs) (progressOf o vs)
+  unfolding progressOf beginOf
+  sound vs =
+      rw (eq-eqb (openingRefusal o) 0 (accepted .accepted))
+      (rw (zero-add (length vs)) at (sound-fold o (opened o accepted) 0 Progress.Begun vs refl))
+
+  module _ (vs : List ℤ) (k : Bracket) (at : progressOf o vs ≡ Progress.Bracketed k) where
+    -- a bracket counts the values
+    pub counts : k .taken ≡ length vs
+    counts = subst (SoundAt o (length vs)) at (sound vs) .0
+
+    pub bracket-sound : Sound o k
+    bracket-sound = subst (SoundAt o (length vs)) at (sound vs) .1
+
+    -- |F(b)| ≤ |F(c)|
+    pub better-closest : natAbs (k .better .value) ≤ natAbs (k .other .value)
+    better-closest = bracket-sound .closest
+
+    -- the two values are never both above or both below target
+    pub never-one-side : sameSide (k .better .value) (k .other .value) ≡ false
+    never-one-side = opposed-crossing _ _ (bracket-sound .held .opposite)
+
+    -- s is at most 3 by M and 4 by R
+    pub streak-allowed : k .streak ≤ allowed (methodOf o)
+    streak-allowed = bracket-sound .bound .streak
+
+    pub ends-limited : (lowerOf k < upperOf k) × (upperOf k ≤ highest)
+    ends-limited = (omega (arith, bracket-sound .held .apart), omega (arith, bracket-sound .limits .better .point, bracket-sound .limits .other .point))
+
+    -- at most 2 + (m + 1) t answers
+    pub at-most : length vs ≤ mostOf o
+    at-most = omega (arith, counts, bracket-sound .bound .most)
+
+    module _ (going : stoppedOf o k ≡ false) where
+      -- fewer, while the search has not stopped
+      pub before-stop : length vs < mostOf o
+      before-stop =
+          omega
+          (arith, counts, bound-below _ _ _ _ _ _ (opened o accepted .tolerance .least) (bracket-sound .bound) (going-wider o k going))
+
+      -- the next point lies strictly between the ends
+      pub next-between : (lowerOf k < nextOf o k) × (nextOf o k < upperOf k)
+      next-between = let a = ahead o k (pos 0) (opened o accepted) bracket-sound going in (a .above, a .below)
+
+    -- with one value more: the bracket lies within this one, and is narrower
+    pub nested : (v : ℤ) (k' : Bracket) → progressOf o (vs ++ (v ∷ [])) ≡ Progress.Bracketed k' → Inside k k' × (widthOf k' < widthOf k)
+    nested v k' e =
+        let t = took o k v k' (rw at at (sym (progress-more o vs v) ∙ e)) in
+        let a = advanced o k v (opened o accepted) bracket-sound (t .going) in
+        rw (t .bracket) (a .inside, a .narrower)
+
+-- ---- the quote
+
+module _ (o : Opening) (accepted : Accepted o) where
+  -- t is the least whole number, zero or more, for which τ 2 ^ (t + 1) reaches the distance between the ends
+  pub t-least : Least (λ t. distanceOf o ≤ natAbs (o .tolerance) * 2 ^ (t + 1)) (tOf o)
+  t-least = turns-least (natAbs (o .tolerance)) (distanceOf o) (opened o accepted .tolerance .least)
+
+  t-few : tOf o ≤ 14
+  t-few =
+      let p = opened o accepted in
+      turns-few (natAbs (o .tolerance)) (distanceOf o) (p .tolerance .least) (omega (arith, p .first .most, p .second .most))
+
+  -- no accepted opening needs more than 58 answers by M or 72 by R
+  pub most-by-M : methodOf o ≡ Method.M → mostOf o ≤ 58
+  most-by-M e = rw e (omega (arith, t-few))
+
+  pub most-by-R : methodOf o ≡ Method.R → mostOf o ≤ 72
+  most-by-R e = rw e (omega (arith, t-few))
+
+  -- so a held search has a slot for each
+  pub most-slots : mostOf o ≤ slots
+  most-slots = go (methodOf o) refl
+    where
+      go : (m : Method) → methodOf o ≡ m → mostOf o ≤ slots
+      go Method.M e = omega (arith, most-by-M e)
+      go Method.R e = most-by-R e
