@@ -125,7 +125,7 @@ module _ (o : Opening) (k : Bracket) (v : ℤ) (op : Opened o) (sound : Sound o 
 
 -- ---- the first bracket
 
-module _ (o : Opening) (u v : ℤ) (op : Opened o) where
+module _ (o : Opening) (u v : ℤ) where
   abbrev begins : Sample
   begins = record { point = firstOf o; value = u }
 
@@ -140,8 +140,8 @@ module _ (o : Opening) (u v : ℤ) (op : Opened o) where
       go true = record { better = q; other = p; previous = p; third = p }
       go false = record { better = p; other = q; previous = q; third = q }
 
-  pub sound-start : natAbs u ≤ largestValue → natAbs v ≤ largestValue → sameSide u v ≡ false → Sound o (startOf begins ends)
-  sound-start h i e =
+  pub sound-start : Opened o → natAbs u ≤ largestValue → natAbs v ≤ largestValue → sameSide u v ≡ false → Sound o (startOf begins ends)
+  sound-start op h i e =
       let s = start-is begins ends (op .apart) (crossing-opposed u v e) in
       let n = start-counts begins ends in
       record {
@@ -154,46 +154,84 @@ module _ (o : Opening) (u v : ℤ) (op : Opened o) where
 
 -- ---- every list of values
 
--- what is known after n values: of a refusal, that its index is that of a value
-abbrev pub SoundAt : Opening → ℕ → Progress → Type 0
-SoundAt o n Progress.Begun = n ≡ 0
-SoundAt o n (Progress.First v) = (n ≡ 1) × (natAbs v ≤ largestValue)
-SoundAt o n (Progress.Bracketed k) = (k .taken ≡ n) × Sound o k
-SoundAt o n (Progress.Refused m i) = i < n
+-- what is known of where a search stands
+abbrev pub SoundAt : Opening → Progress → Type 0
+SoundAt o Progress.Begun = Opened o
+SoundAt o (Progress.First v) = Opened o × (natAbs v ≤ largestValue)
+SoundAt o (Progress.Bracketed k) = Opened o × Sound o k
+SoundAt o (Progress.Refused m i) = Unit {0}
 
-module _ (o : Opening) (op : Opened o) where
-  -- entered where no refusal applies, else refused with the index of the value
-  settled : (n : ℕ) (p : Progress) (other : Bool) (v : ℤ) → takenOf p ≡ n
-      → (Passed (stoppedAt o p) other (tooLarge v) (sameSideAt p v) → SoundAt o (n + 1) (enteredAt o p v))
-      → SoundAt o (n + 1) (answeredAt o p other v)
-  settled n p other v e f = go (eqb (answerRefusal (stoppedAt o p) other (tooLarge v) (sameSideAt p v)) 0) refl
+-- after n values: a bracket counts them, and a refusal has the index of one of them
+abbrev pub CountedAt : ℕ → Progress → Type 0
+CountedAt n Progress.Begun = n ≡ 0
+CountedAt n (Progress.First v) = n ≡ 1
+CountedAt n (Progress.Bracketed k) = k .taken ≡ n
+CountedAt n (Progress.Refused m i) = i < n
+
+module _ (o : Opening) (p : Progress) (other : Bool) (v : ℤ) where
+  abbrev refusal : ℕ
+  refusal = answerRefusal (stoppedAt o p) other (tooLarge v) (sameSideAt p v)
+
+  -- a property of where the search stands then, if it holds where the answer is entered and where it is refused
+  settled : (P : Progress → Type 0) → (Passed (stoppedAt o p) other (tooLarge v) (sameSideAt p v) → P (enteredAt o p v))
+      → P (Progress.Refused refusal (takenOf p)) → P (answeredAt o p other v)
+  settled P f g = go (eqb refusal 0) refl
     where
-      go : (b : Bool) → eqb (answerRefusal (stoppedAt o p) other (tooLarge v) (sameSideAt p v)) 0 ≡ b
-          → SoundAt o (n + 1) (cond b (enteredAt o p v) (Progress.Refused (answerRefusal (stoppedAt o p) other (tooLarge v) (sameSideAt p v)) (takenOf p)))
+      go : (b : Bool) → eqb refusal 0 ≡ b → P (cond b (enteredAt o p v) (Progress.Refused refusal (takenOf p)))
       go true h = f (answer-passed _ _ _ _ (eqb-true _ _ h))
-      go false h = omega arith
+      go false h = g
 
-  value-limited : (v : ℤ) → tooLarge v ≡ false → natAbs v ≤ largestValue
-  value-limited v e = ltb-false largestValue (natAbs v) e
+value-limited : (v : ℤ) → tooLarge v ≡ false → natAbs v ≤ largestValue
+value-limited v e = ltb-false largestValue (natAbs v) e
 
-  pub sound-offer : (n : ℕ) (p : Progress) (other : Bool) (v : ℤ) → SoundAt o n p → SoundAt o (n + 1) (offerOf o p other v)
-  unfolding offerOf
-  sound-offer n Progress.Begun other v s =
-      settled n Progress.Begun other v (sym s) (λ q. (omega arith, value-limited v (q .ranged)))
-  sound-offer n (Progress.First u) other v s =
-      settled n (Progress.First u) other v (sym (s .0))
-      (λ q. (omega (arith, start-counts (begins o u v op) (ends o u v op) .1), sound-start o u v op (s .1) (value-limited v (q .ranged)) (q .crossing)))
-  sound-offer n (Progress.Bracketed k) other v s =
-      settled n (Progress.Bracketed k) other v (s .0)
-      (λ q. (omega (arith, advance-taken k (record { point = nextOf o k; value = v })), sound-advance o k v op (s .1) (q .going) (value-limited v (q .ranged))))
-  sound-offer n (Progress.Refused m i) other v s = omega arith
+pub sound-offer : (o : Opening) (p : Progress) (other : Bool) (v : ℤ) → SoundAt o p → SoundAt o (offerOf o p other v)
+unfolding offerOf
+sound-offer o Progress.Begun other v s =
+    settled o Progress.Begun other v (SoundAt o) (λ q. (s, value-limited v (q .ranged))) tt
+sound-offer o (Progress.First u) other v s =
+    settled o (Progress.First u) other v (SoundAt o)
+    (λ q. (s .0, sound-start o u v (s .0) (s .1) (value-limited v (q .ranged)) (q .crossing))) tt
+sound-offer o (Progress.Bracketed k) other v s =
+    settled o (Progress.Bracketed k) other v (SoundAt o)
+    (λ q. (s .0, sound-advance o k v (s .0) (s .1) (q .going) (value-limited v (q .ranged)))) tt
+sound-offer o (Progress.Refused m i) other v s = tt
 
-  sound-fold : (n : ℕ) (p : Progress) (vs : List ℤ) → SoundAt o n p → SoundAt o (n + length vs) (foldl (takeOf o) p vs)
-  unfolding takeOf
-  sound-fold n p [] s = rw (add-zero n) s
-  sound-fold n p (v ∷ vs) s =
-      let e : (n + 1) + length vs ≡ n + length (v ∷ vs) = omega arith in
-      rw (← e) (sound-fold (n + 1) (offerOf o p false v) vs (sound-offer n p false v s))
+pub counted-offer : (o : Opening) (n : ℕ) (p : Progress) (other : Bool) (v : ℤ) → CountedAt n p → CountedAt (n + 1) (offerOf o p other v)
+unfolding offerOf
+counted-offer o n Progress.Begun other v e =
+    settled o Progress.Begun other v (CountedAt (n + 1)) (λ q. omega arith) (omega arith)
+counted-offer o n (Progress.First u) other v e =
+    settled o (Progress.First u) other v (CountedAt (n + 1)) (λ q. omega (arith, start-counts (begins o u v) (ends o u v) .1)) (omega arith)
+counted-offer o n (Progress.Bracketed k) other v e =
+    settled o (Progress.Bracketed k) other v (CountedAt (n + 1))
+    (λ q. omega (arith, advance-taken k (record { point = nextOf o k; value = v }))) (omega arith)
+counted-offer o n (Progress.Refused m i) other v e = omega arith
+
+pub sound-begin : (o : Opening) → SoundAt o (beginOf o)
+unfolding beginOf
+sound-begin o = go (eqb (openingRefusal o) 0) refl
+  where
+    go : (b : Bool) → eqb (openingRefusal o) 0 ≡ b → SoundAt o (cond b Progress.Begun (Progress.Refused (openingRefusal o) 0))
+    go true e = opened o (record { accepted = eqb-true _ _ e })
+    go false e = tt
+
+pub sound : (o : Opening) (vs : List ℤ) → SoundAt o (progressOf o vs)
+unfolding progressOf takeOf
+sound o vs = go (beginOf o) vs (sound-begin o)
+  where
+    go : (p : Progress) (vs : List ℤ) → SoundAt o p → SoundAt o (foldl (takeOf o) p vs)
+    go p [] s = s
+    go p (v ∷ vs) s = go (offerOf o p false v) vs (sound-offer o p false v s)
+
+counted : (o : Opening) → Accepted o → (vs : List ℤ) → CountedAt (length vs) (progressOf o vs)
+unfolding progressOf takeOf beginOf
+counted o a vs = rw (eq-eqb (openingRefusal o) 0 (a .accepted)) (rw (zero-add (length vs)) at (go 0 Progress.Begun vs refl))
+  where
+    go : (n : ℕ) (p : Progress) (vs : List ℤ) → CountedAt n p → CountedAt (n + length vs) (foldl (takeOf o) p vs)
+    go n p [] c = rw (add-zero n) c
+    go n p (v ∷ vs) c =
+        let e : (n + 1) + length vs ≡ n + length (v ∷ vs) = omega arith in
+        rw (← e) (go (n + 1) (offerOf o p false v) vs (counted-offer o n p false v c))
 
 -- one value more
 pub progress-more : (o : Opening) (vs : List ℤ) (v : ℤ) → progressOf o (vs ++ (v ∷ [])) ≡ takeOf o (progressOf o vs) v
@@ -220,69 +258,64 @@ took o k v k' = go (eqb (answerRefusal (stoppedOf o k) false (tooLarge v) false)
 
 -- ---- the laws
 
-module _ (o : Opening) (accepted : Accepted o) where
-  pub sound : (vs : List ℤ) → SoundAt o (length vs) (progressOf o vs)
-  unfolding progressOf beginOf
-  sound vs =
-      rw (eq-eqb (openingRefusal o) 0 (accepted .accepted))
-      (rw (zero-add (length vs)) at (sound-fold o (opened o accepted) 0 Progress.Begun vs refl))
+module _ (o : Opening) (accepted : Accepted o) (vs : List ℤ) (k : Bracket) (at : progressOf o vs ≡ Progress.Bracketed k) where
+  -- a bracket counts the values
+  pub counts : k .taken ≡ length vs
+  counts = subst (CountedAt (length vs)) at (counted o accepted vs)
 
-  module _ (vs : List ℤ) (k : Bracket) (at : progressOf o vs ≡ Progress.Bracketed k) where
-    -- a bracket counts the values
-    pub counts : k .taken ≡ length vs
-    counts = subst (SoundAt o (length vs)) at (sound vs) .0
+  pub bracket-opened : Opened o
+  bracket-opened = subst (SoundAt o) at (sound o vs) .0
 
-    pub bracket-sound : Sound o k
-    bracket-sound = subst (SoundAt o (length vs)) at (sound vs) .1
+  pub bracket-sound : Sound o k
+  bracket-sound = subst (SoundAt o) at (sound o vs) .1
 
-    -- |F(b)| ≤ |F(c)|
-    pub better-closest : natAbs (k .better .value) ≤ natAbs (k .other .value)
-    better-closest = bracket-sound .closest
+  -- |F(b)| ≤ |F(c)|
+  pub better-closest : natAbs (k .better .value) ≤ natAbs (k .other .value)
+  better-closest = bracket-sound .closest
 
-    -- the two values are never both above or both below target
-    pub never-one-side : sameSide (k .better .value) (k .other .value) ≡ false
-    never-one-side = opposed-crossing _ _ (bracket-sound .held .opposite)
+  -- the two values are never both above or both below target
+  pub never-one-side : sameSide (k .better .value) (k .other .value) ≡ false
+  never-one-side = opposed-crossing _ _ (bracket-sound .held .opposite)
 
-    -- s is at most 3 by M and 4 by R
-    pub streak-allowed : k .streak ≤ allowed (methodOf o)
-    streak-allowed = bracket-sound .bound .streak
+  -- s is at most 3 by M and 4 by R
+  pub streak-allowed : k .streak ≤ allowed (methodOf o)
+  streak-allowed = bracket-sound .bound .streak
 
-    pub ends-limited : (lowerOf k < upperOf k) × (upperOf k ≤ highest)
-    ends-limited = (omega (arith, bracket-sound .held .apart), omega (arith, bracket-sound .limits .better .point, bracket-sound .limits .other .point))
+  -- the ends lie apart, from 0 to the highest point
+  pub ends-limited : (lowerOf k < upperOf k) × (upperOf k ≤ highest)
+  ends-limited = (omega (arith, bracket-sound .held .apart), omega (arith, bracket-sound .limits .better .point, bracket-sound .limits .other .point))
 
-    -- at most 2 + (m + 1) t answers
-    pub at-most : length vs ≤ mostOf o
-    at-most = omega (arith, counts, bracket-sound .bound .most)
+  -- at most 2 + (m + 1) t answers
+  pub at-most : length vs ≤ mostOf o
+  at-most = omega (arith, counts, bracket-sound .bound .most)
 
-    module _ (going : stoppedOf o k ≡ false) where
-      -- fewer, while the search has not stopped
-      pub before-stop : length vs < mostOf o
-      before-stop =
-          omega
-          (arith, counts, bound-below _ _ _ _ _ _ (opened o accepted .tolerance .least) (bracket-sound .bound) (going-wider o k going))
+  module _ (going : stoppedOf o k ≡ false) where
+    -- fewer, while the search has not stopped
+    pub before-stop : length vs < mostOf o
+    before-stop =
+        omega (arith, counts, bound-below _ _ _ _ _ _ (bracket-opened .tolerance .least) (bracket-sound .bound) (going-wider o k going))
 
-      -- the next point lies strictly between the ends
-      pub next-between : (lowerOf k < nextOf o k) × (nextOf o k < upperOf k)
-      next-between = let a = ahead o k (pos 0) (opened o accepted) bracket-sound going in (a .above, a .below)
+    -- the next point lies strictly between the ends
+    pub next-between : (lowerOf k < nextOf o k) × (nextOf o k < upperOf k)
+    next-between = let a = ahead o k (pos 0) bracket-opened bracket-sound going in (a .above, a .below)
 
-    -- with one value more: the bracket lies within this one, and is narrower
-    pub nested : (v : ℤ) (k' : Bracket) → progressOf o (vs ++ (v ∷ [])) ≡ Progress.Bracketed k' → Inside k k' × (widthOf k' < widthOf k)
-    nested v k' e =
-        let t = took o k v k' (rw at at (sym (progress-more o vs v) ∙ e)) in
-        let a = advanced o k v (opened o accepted) bracket-sound (t .going) in
-        rw (t .bracket) (a .inside, a .narrower)
+  -- with one value more: the bracket lies within this one, and is narrower
+  pub nested : (v : ℤ) (k' : Bracket) → progressOf o (vs ++ (v ∷ [])) ≡ Progress.Bracketed k' → Inside k k' × (widthOf k' < widthOf k)
+  nested v k' e =
+      let t = took o k v k' (rw at at (sym (progress-more o vs v) ∙ e)) in
+      let a = advanced o k v bracket-opened bracket-sound (t .going) in
+      rw (t .bracket) (a .inside, a .narrower)
 
 -- ---- the quote
 
-module _ (o : Opening) (accepted : Accepted o) where
+module _ (o : Opening) (op : Opened o) where
   -- t is the least whole number, zero or more, for which τ 2 ^ (t + 1) reaches the distance between the ends
   pub t-least : Least (λ t. distanceOf o ≤ natAbs (o .tolerance) * 2 ^ (t + 1)) (tOf o)
-  t-least = turns-least (natAbs (o .tolerance)) (distanceOf o) (opened o accepted .tolerance .least)
+  t-least = turns-least (natAbs (o .tolerance)) (distanceOf o) (op .tolerance .least)
 
-  t-few : tOf o ≤ 14
+  pub t-few : tOf o ≤ 14
   t-few =
-      let p = opened o accepted in
-      turns-few (natAbs (o .tolerance)) (distanceOf o) (p .tolerance .least) (omega (arith, p .first .most, p .second .most))
+      turns-few (natAbs (o .tolerance)) (distanceOf o) (op .tolerance .least) (omega (arith, op .first .most, op .second .most))
 
   -- no accepted opening needs more than 58 answers by M or 72 by R
   pub most-by-M : methodOf o ≡ Method.M → mostOf o ≤ 58
