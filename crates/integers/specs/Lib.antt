@@ -1,2 +1,4 @@
 pub mod Signs
 pub mod Digits
+pub mod Bounds
+pub mod Formulas

@@ -6,9 +6,9 @@ use Prim.Native.Nat.{ℕ, zero, suc, _+_, _*_, _≤_, _<_}
 use native.Mathlib.Nat.{mul-pos}
 use native.Mathlib.Omega.{arith}
 use lib.Dec.{T, eqb}
-use lib.IntN.{ℤ, pos, negsuc, negℤ, natAbs, _*ℤ_, *ℤ-comm}
+use lib.IntN.{ℤ, pos, negsuc, negℤ, natAbs, _-ℤ_, _*ℤ_, *ℤ-comm, +ℤ-idl, +ℤ-invr, -ℤ-+ℤ-cancel}
 use lib.Signed.{leZ, ltZ}
-use borrow.Author.Tests.{eqb-true, eqb-false, leb-true, leb-false, le-leb, lt-leb, ltb-true, ltb-false, lt-ltb}
+use borrow.Author.Tests.{eqb-true, eqb-false, eq-eqb, leb-true, leb-false, le-leb, ltb-true, lt-ltb}
 
 -- ---- equality
 
@@ -27,6 +27,29 @@ eqZ-true (pos a) (pos b) e = ap pos (eqb-true a b e)
 eqZ-true (pos a) (negsuc b) e = never (sym e)
 eqZ-true (negsuc a) (pos b) e = never (sym e)
 eqZ-true (negsuc a) (negsuc b) e = ap negsuc (eqb-true a b e)
+
+eqZ-self : (a : ℤ) → eqZ a a ≡ true
+eqZ-self (pos a) = eq-eqb a a refl
+eqZ-self (negsuc a) = eq-eqb a a refl
+
+pub eq-eqZ : (a b : ℤ) → a ≡ b → eqZ a b ≡ true
+eq-eqZ a b e = rw e (eqZ-self b)
+
+pub ne-eqZ : (a b : ℤ) → (a ≡ b → ⊥) → eqZ a b ≡ false
+ne-eqZ a b h = go (eqZ a b) refl
+  where
+    go : (t : Bool) → eqZ a b ≡ t → t ≡ false
+    go true e = absurd (h (eqZ-true a b e))
+    go false e = refl
+
+-- two numbers are equal where their difference is 0
+pub eqZ-difference : (a b : ℤ) → eqZ (a -ℤ b) (pos 0) ≡ eqZ a b
+eqZ-difference a b = go (eqZ a b) refl
+  where
+    go : (t : Bool) → eqZ a b ≡ t → eqZ (a -ℤ b) (pos 0) ≡ t
+    go true e = eq-eqZ (a -ℤ b) (pos 0) (rw (eqZ-true a b e) (+ℤ-invr b))
+    go false e =
+        ne-eqZ (a -ℤ b) (pos 0) (λ h. never (sym (eq-eqZ a b (sym (-ℤ-+ℤ-cancel a b) ∙ rw h (+ℤ-idl b))) ∙ e))
 
 -- ---- signs, as tests against 0 tell them
 

@@ -4,11 +4,11 @@ use Prim.Native.Nat.{ℕ, zero, suc, _*_, _≤_, _<_}
 use mathlib.Core.Path.{_≡_, refl, sym, ap, _∙_}
 use mathlib.Core.Bool.{Bool, true, false, cond, _&&_, _||_}
 use native.Mathlib.Omega.{arith}
-use borrow.Author.Tests.{ltb-false, ltb-true, lt-ltb, le-ltb, le-leb, leb-true, eq-eqb}
+use borrow.Author.Tests.{ltb-false, ltb-true, lt-ltb, le-ltb, le-leb, leb-true}
 use lib.Dec.{ltb, leb, eqb}
 use lib.IntN.{ℤ, pos, negsuc, natAbs}
 use lib.Signed.{ltZ, leZ}
-use Rattle.integers.specs.Signs.{eqZ, never, negated, product-above}
+use Rattle.integers.specs.Signs.{eqZ, eq-eqZ, never, negated, product-above}
 use Rattle.rules.specs.declared.Opening.{Opening}
 use Rattle.rules.specs.Rules.{highest, largestTolerance, largestValue, opposed}
 use Rattle.rules.specs.Refusals.{outside, tooLarge, sameSide, openingRefusal, answerRefusal, Accepted}
@@ -49,10 +49,6 @@ pub record Opened (o : Opening) : Type 0 where
   pub apart : natAbs (o .first) ≡ natAbs (o .second) → ⊥
   pub tolerance : Ranged 1 largestTolerance (o .tolerance)
 
-eqZ-refl : (z : ℤ) → eqZ z z ≡ true
-eqZ-refl (pos n) = eq-eqb n n refl
-eqZ-refl (negsuc n) = eq-eqb n n refl
-
 pub opened : (o : Opening) → Accepted o → Opened o
 unfolding openingRefusal
 opened o a =
@@ -67,7 +63,7 @@ opened o a =
       method = ranged 0 2 (o .method) (p .0);
       first = x;
       second = y;
-      apart = λ f. never (sym (eqZ-refl (o .second)) ∙ ap (λ (z : ℤ). eqZ z (o .second)) (y .whole ∙ ap pos (sym f) ∙ sym (x .whole)) ∙ r .0);
+      apart = λ f. never (sym (eq-eqZ (o .first) (o .second) (x .whole ∙ ap pos f ∙ sym (y .whole))) ∙ r .0);
       tolerance = ranged 1 largestTolerance (o .tolerance) (s .0);
     }
 
