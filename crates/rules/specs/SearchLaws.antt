@@ -54,6 +54,10 @@ pub tolerance-least : (o : Opening) (b : ℕ) → natAbs (o .tolerance) ≤ tole
 unfolding toleranceAt
 tolerance-least o b = le-refl _
 
+pub tolerance-most : (o : Opening) (b : ℕ) → Opened o → toleranceAt o b ≤ largestTolerance
+unfolding toleranceAt
+tolerance-most o b op = op .tolerance .most
+
 pub going-wider : (o : Opening) (k : Bracket) → stoppedOf o k ≡ false → 2 * natAbs (o .tolerance) < widthOf k
 going-wider o k g = omega (arith, going-wide o k g, tolerance-least o (k .better .point))
 

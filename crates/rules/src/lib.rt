@@ -1,5 +1,14 @@
 // The types of the search, of which document 01 speaks. There is no function here: see specs/.
 
+// The limits: of a point, of the tolerance, of a value above and below 0, and of the answers that a held search keeps.
+pub const HIGHEST: u32 = 20000;
+
+pub const LARGEST_TOLERANCE: u32 = 5000;
+
+pub const LARGEST_VALUE: u32 = 10000;
+
+pub const SLOTS: u32 = 72;
+
 // An opening: the method, the first end x0, the second end x1 and the tolerance. A sheet may hold any of them out of range.
 pub struct Opening {
     pub method: i32,
