@@ -4,12 +4,12 @@ ghost use mathlib.Core.Bool.{false, _||_};
 ghost use Prim.Native.Nat.{_+_, _≤_, _<_};
 ghost use Rattle.integers.specs.Signs.{eqZ};
 ghost use Rattle.interpolation.specs.Ranges.{widest};
-ghost use Rattle.rules.specs.Rules.{highest, methodOf, toleranceAt, gapOf, widthOf, startOf, stoppedOf, partnerOf, thirdOf, streakOf, renewedOf, advanceOf, stepOf, reachOf, offsetOf, nextOf};
+ghost use Rattle.rules.specs.Rules.{highest, methodOf, toleranceAt, gapOf, widthOf, startOf, stoppedOf, partnerOf, thirdOf, streakOf, renewedOf, advanceOf, stepOf, reachOf, offsetOf, nextOf, allowed};
 ghost use Rattle.rules.specs.Refusals.{openingRefusal, answerRefusal, tooLarge, sameSide, outside};
 ghost use Rattle.rules.specs.RefusalsLaws.{Opened};
-ghost use Rattle.rules.specs.Search.{beginOf, offerOf, takeOf, reportAt, reportOf, quoteOf, answeredAt, bracketReport};
+ghost use Rattle.rules.specs.Search.{beginOf, answeredAt, offerOf, bracketReport, reportAt, reportOf, turnsOf, quoteOf};
 ghost use Rattle.rules.specs.SearchLaws.{Sound, SoundAt};
-ghost use Rattle.rules.specs.declared.Progress.{Progress};
+ghost use Rattle.rules.specs.declared.Progress.the-variants.{First, Bracketed};
 ghost use Rattle.search.specs.Ready.{Countable, Surveyed, Ready, isRefused};
 use rules::Bracket;
 use rules::Method;
@@ -326,4 +326,213 @@ pub fn next_point(o: Opening, k: Bracket) -> u32
     let b = k.better.point;
     let d = offset(o, k);
     if b <= k.other.point { b + d } else { b - d }
+}
+
+// ---- the search over a list
+
+// Where a search stands before the first answer.
+pub fn begin(o: Opening) -> Progress
+    ensures { λ r. ⌜ r ≡ beginOf o ⌝ }
+{
+    let n = opening_refusal(o);
+    if n == 0 {
+        Progress::Begun
+    } else {
+        Progress::Refused {
+            number: n,
+            place: 0,
+        }
+    }
+}
+
+// The second answer, v, after the first, u.
+fn offer_second(o: Opening, u: i32, other: bool, v: i32) -> Progress
+    ensures { λ r. ⌜ r ≡ answeredAt o (First u) other v ⌝ }
+{
+    let n = answer_refusal(false, other, too_large(v), same_side(u, v));
+    if n != 0 {
+        return Progress::Refused {
+            number: n,
+            place: 1,
+        };
+    }
+    let x0 = Sample {
+        point: interpolation::magnitude(o.first),
+        value: u,
+    };
+    let x1 = Sample {
+        point: interpolation::magnitude(o.second),
+        value: v,
+    };
+    Progress::Bracketed {
+        bracket: start(x0, x1),
+    }
+}
+
+// An answer to a search that has a bracket.
+fn offer_more(o: Opening, k: Bracket, other: bool, v: i32) -> Progress
+    requires { ⌜ (Opened o) × (Sound o k) ⌝ }
+    ensures { λ r. ⌜ r ≡ answeredAt o (Bracketed k) other v ⌝ }
+{
+    let n = answer_refusal(stopped(o, k), other, too_large(v), false);
+    if n != 0 {
+        return Progress::Refused {
+            number: n,
+            place: k.taken,
+        };
+    }
+    let x = Sample {
+        point: next_point(o, k),
+        value: v,
+    };
+    Progress::Bracketed {
+        bracket: advance(k, x),
+    }
+}
+
+// Where a search stands after one answer more. `other` says that a point is given and is another than the one called for.
+pub fn offer(o: Opening, p: Progress, other: bool, v: i32) -> Progress
+    requires { ⌜ SoundAt o p ⌝ }
+    ensures { λ r. ⌜ r ≡ offerOf o p other v ⌝ }
+{
+    match p {
+        Progress::Begun => {
+            let n = answer_refusal(false, other, too_large(v), false);
+            if n == 0 {
+                Progress::First { value: v }
+            } else {
+                Progress::Refused {
+                    number: n,
+                    place: 0,
+                }
+            }
+        }
+        Progress::First { value } => offer_second(o, value, other, v),
+        Progress::Bracketed { bracket } => offer_more(o, bracket, other, v),
+        Progress::Refused { number, place } => Progress::Refused { number, place },
+    }
+}
+
+// The report on a bracket: the stop, or the next point.
+fn bracket_report(o: Opening, k: Bracket) -> Report
+    requires { ⌜ (Opened o) × (Sound o k) ⌝ }
+    ensures { λ r. ⌜ r ≡ bracketReport o k ⌝ }
+{
+    if stopped(o, k) {
+        let b = k.better.point;
+        let c = k.other.point;
+        if b <= c {
+            Report::Stop {
+                lower: b,
+                upper: c,
+                better: b,
+                taken: k.taken,
+            }
+        } else {
+            Report::Stop {
+                lower: c,
+                upper: b,
+                better: b,
+                taken: k.taken,
+            }
+        }
+    } else {
+        Report::Next {
+            point: next_point(o, k),
+            taken: k.taken,
+        }
+    }
+}
+
+// The report on where a search stands.
+pub fn report_at(o: Opening, p: Progress) -> Report
+    requires { ⌜ SoundAt o p ⌝ }
+    ensures { λ r. ⌜ r ≡ reportAt o p ⌝ }
+{
+    match p {
+        Progress::Begun => Report::Next {
+            point: interpolation::magnitude(o.first),
+            taken: 0,
+        },
+        Progress::First { value: _ } => Report::Next {
+            point: interpolation::magnitude(o.second),
+            taken: 1,
+        },
+        Progress::Bracketed { bracket } => bracket_report(o, bracket),
+        Progress::Refused { number, place } => Report::Refused { number, place },
+    }
+}
+
+// Whether a search is refused, which no further answer changes.
+pub fn is_refused(p: Progress) -> bool
+    ensures { λ r. ⌜ r ≡ isRefused p ⌝ }
+{
+    match p {
+        Progress::Begun => false,
+        Progress::First { value: _ } => false,
+        Progress::Bracketed { bracket: _ } => false,
+        Progress::Refused {
+            number: _,
+            place: _,
+        } => true,
+    }
+}
+
+// The report on an opening and the values answered so far, of any length.
+pub fn report_on(o: Opening, values: &[i32]) -> Report
+    ensures { λ r. ⌜ r ≡ reportOf o (now (values .entry)) ⌝ }
+{
+    let mut p = begin(o);
+    let mut i: usize = 0;
+    while i < values.len() {
+        let v = values[i];
+        p = offer(o, p, false, v);
+        if is_refused(p) {
+            return report_at(o, p);
+        }
+        i += 1;
+    }
+    report_at(o, p)
+}
+
+// ---- the quote
+
+// The steps in a row that need not halve.
+fn allowed_streak(method: Method) -> u32
+    ensures { λ r. ⌜ r ≡ allowed method ⌝ }
+{
+    match method {
+        Method::M => 3,
+        Method::R => 4,
+    }
+}
+
+// The number of binary digits of the whole part of (distance − 1)/(2 tolerance).
+fn turns(tolerance: u32, distance: u32) -> u32
+    requires { ⌜ (1 ≤ tolerance) × (tolerance ≤ widest) × (1 ≤ distance) ⌝ }
+    ensures { λ r. ⌜ r ≡ turnsOf tolerance distance ⌝ }
+{
+    32 - u32::leading_zeros((distance - 1) / (2 * tolerance))
+}
+
+// t and the most answers that an opening may need, or its refusal.
+pub fn quote(o: Opening) -> Quote
+    ensures { λ r. ⌜ r ≡ quoteOf o ⌝ }
+{
+    let n = opening_refusal(o);
+    if n != 0 {
+        return Quote::Refused {
+            number: n,
+            place: 0,
+        };
+    }
+    let distance = gap(
+        interpolation::magnitude(o.first),
+        interpolation::magnitude(o.second),
+    );
+    let t = turns(interpolation::magnitude(o.tolerance), distance);
+    Quote::Quoted {
+        t,
+        most: 2 + (allowed_streak(method_of(o)) + 1) * t,
+    }
 }
