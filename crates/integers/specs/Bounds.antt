@@ -1,7 +1,7 @@
 -- Whole numbers by their absolute value. A range of a signed number is one bound in ℕ, `Within z k`, which `omega` reads; these
 -- laws carry such bounds through the operations, to the widths of the machine, and to the bits that it computes on.
 -- Assumes nothing.
-use mathlib.Core.Path.{_≡_, refl, sym, ap, _∙_, subst}
+use mathlib.Core.Path.{_≡_, refl, sym, ap, _∙_}
 use mathlib.Core.Bool.{Bool, true, false, not, cond}
 use Prim.Native.Nat.{ℕ, zero, suc, _+_, _-_, _*_, _/_, _^_, _≤_, _<_}
 use native.Mathlib.Nat.{le-refl, le-trans, le-of-eq, lt-of-le-of-lt, mul-le-mul, div-le-self}

@@ -5,12 +5,13 @@
 --     bound e      bounds its absolute value
 --     ok e         every bound on the way is below 2 ^ 63: it computes where the leaves' bounds are numerals, and `tt` proves it
 -- Assumes nothing.
-use mathlib.Core.Path.{_≡_, refl, sym, ap, _∙_}
-use mathlib.Core.Bool.{Bool, true, false, _&&_}
+use mathlib.Core.Path.{_≡_, ap, _∙_}
+use mathlib.Core.Bool.{Bool, true, _&&_}
 use Prim.Native.Nat.{ℕ, _+_, _*_, _^_, _≤_}
+use native.Mathlib.Nat.{le-refl}
 use lib.Dec.{T, ltb}
 use lib.IntN.{ℤ, pos, negℤ, _-ℤ_, _*ℤ_}
-use lib.Signed.{quotZ, ltZ, leZ}
+use lib.Signed.{quotZ}
 use mir.Syntax.{w32, w64}
 use mir.Val.{SFits, toZ, ofZ}
 use mir.Facts.{and-yes, sfits-widen}
@@ -121,12 +122,9 @@ reads e t = computes e t .1
 pub reads-within : (e : Formula) → T (ok e) → Within (toZ w64 (bitsOf e)) (bound e)
 reads-within e t = rw (reads e t) (in-bound e)
 
--- a test of two formulas is the test of their numbers
-pub test-lt : (a b : Formula) → T (ok a && ok b) → ltZ (value a) (value b) ≡ ltZ (toZ w64 (bitsOf a)) (toZ w64 (bitsOf b))
-test-lt a b t = let v = and-yes (ok a) (ok b) t in rw (reads a (v .0), reads b (v .1))
-
-pub test-le : (a b : Formula) → T (ok a && ok b) → leZ (value a) (value b) ≡ leZ (toZ w64 (bitsOf a)) (toZ w64 (bitsOf b))
-test-le a b t = let v = and-yes (ok a) (ok b) t in rw (reads a (v .0), reads b (v .1))
+-- a test of two formulas, `ltZ` or `leZ`, is the test of their numbers
+pub tests : (p : ℤ → ℤ → Bool) (a b : Formula) → T (ok a && ok b) → p (value a) (value b) ≡ p (toZ w64 (bitsOf a)) (toZ w64 (bitsOf b))
+tests p a b t = let v = and-yes (ok a) (ok b) t in rw (reads a (v .0), reads b (v .1))
 
 -- ---- the leaves
 
@@ -149,9 +147,13 @@ wide z {k} f h t =
       within = h;
     })
 
--- an unsigned number that was cast to an `i64`, and a literal that is not negative
+-- an unsigned number that was cast to an `i64`
 abbrev pub nat : (n : ℕ) {k : ℕ} → n ≤ k → T (ltb k (2 ^ 63)) → Formula
 nat n {k} h t = leaf (record { bits = n; num = pos n; most = k; stands = read64 (within-nat h) t; within = within-nat h })
+
+-- a literal that is not negative
+abbrev pub literal : (n : ℕ) → T (ltb n (2 ^ 63)) → Formula
+literal n t = nat n (le-refl n) t
 
 -- a formula of which a smaller bound is known
 abbrev pub tight : (e : Formula) {k : ℕ} → Within (value e) k → T (ok e) → Formula

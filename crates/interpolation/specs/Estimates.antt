@@ -1,4 +1,5 @@
--- The two estimates of rules 4 and 5 have one form, b − s(b − a)/q.
+-- The two estimates of rules 4 and 5 have one form, b − s(b − a)/q: the linear one with s = F(b) and q = F(b) − F(a), the rational
+-- one with s = S and q = Q.
 -- Assumes nothing.
 use Prim.Native.Nat.{ℕ}
 use mathlib.Core.Path.{_≡_, refl}

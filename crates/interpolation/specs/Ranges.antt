@@ -6,13 +6,16 @@ use Rattle.rules.specs.Rules.{largestValue}
 use Rattle.rules.specs.declared.Sample.{Sample}
 use Rattle.rules.specs.declared.Fraction.{Fraction}
 
--- of a point, a tolerance and a width
+-- the highest point, tolerance and width
 abbrev pub widest : ℕ
 widest = 65535
 
+-- a sample of such a point, whose value is in document 01's range
 pub record Measured (s : Sample) : Type 0 where
   pub near : s .point ≤ widest
   pub small : Within (s .value) largestValue
+
+-- ---- what follows, in absolute value: no number on the way exceeds 2 * (2 * mostNum), which is below 2 ^ 63
 
 -- of S
 abbrev pub mostCross : ℕ

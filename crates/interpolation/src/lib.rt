@@ -59,9 +59,9 @@ pub fn linear(b: Sample, a: Sample, up: bool) -> Fraction
     ensures { λ r. ⌜ r ≡ linearOf b a up ⌝ }
     ensures { λ r. ⌜ Small 1 r ⌝ }
 {
-    let s = b.value as i64;
-    let q = s - a.value as i64;
-    estimate(s, q, b.point, a.point, up)
+    let f = b.value as i64;
+    let rise = f - a.value as i64;
+    estimate(f, rise, b.point, a.point, up)
 }
 
 // F(p)(F(q) − F(d))(p − d).

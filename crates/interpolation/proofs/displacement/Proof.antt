@@ -3,14 +3,14 @@
 -- Assumes nothing.
 use mathlib.Core.Path.{_≡_, _∙_}
 use mathlib.Core.Bool.{true, false}
-use lib.Dec.{lit≤}
+use native.Mathlib.Omega.{arith}
 use lib.IntN.{pos}
 use lib.Signed.{ltZ}
 use mir.Syntax.{w64}
 use mir.Facts.{sfits-lit}
 use Rattle.integers.specs.Signs.{eqZ}
 use Rattle.integers.specs.Bounds.{within-fits, above-of-negative, above-of-not, bits-same, bits-other}
-use Rattle.integers.specs.Formulas.{Formula, whole, nat, neg, asks, reads, reads-within, test-lt}
+use Rattle.integers.specs.Formulas.{Formula, whole, literal, neg, asks, reads, reads-within, tests}
 use Rattle.rules.specs.Rules.{displacementOf}
 use Rattle.interpolation.proofs.displacement.Statement.{statement}
 use Rattle.interpolation.proofs.displacement.Tie as tie
@@ -21,9 +21,6 @@ n s = whole (s .args .u .num) (s .pre .2 .num-in) tt
 abbrev d : tie.Start → Formula
 d s = whole (s .args .u .den) (s .pre .2 .den-in) tt
 
-abbrev zero : Formula
-zero = nat 0 {k = 0} (lit≤ tt) tt
-
 -- the start, from where the denominator is known not to be 0
 abbrev start : tie.Else1 → tie.Start
 start p = p .before .before .before
@@ -33,10 +30,10 @@ other : (p : tie.Else1) → eqZ (start p .args .u .den) (pos 0) ≡ false
 other p = bits-other w64 (start p .args .u .den) (pos 0) (p .if1 .left)
 
 negative : (p : tie.Then2) → ltZ (start (p .before) .args .u .den) (pos 0) ≡ true
-negative p = test-lt (d (start (p .before))) zero tt ∙ p .if2 .taken
+negative p = tests ltZ (d (start (p .before))) (literal 0 tt) tt ∙ p .if2 .taken
 
 not-negative : (p : tie.Else2) → ltZ (start (p .before) .args .u .den) (pos 0) ≡ false
-not-negative p = test-lt (d (start (p .before))) zero tt ∙ p .if2 .left
+not-negative p = tests ltZ (d (start (p .before))) (literal 0 tt) tt ∙ p .if2 .left
 
 returns : tie.Need-returns
 unfolding displacementOf
@@ -52,7 +49,7 @@ sub-forward-2 c = asks (neg (d (start (c .before)))) tt
 forward-requires : tie.Need-forward-requires
 forward-requires c κs =
     let s = start (c .before) in (
-      (s .pre .0, s .pre .1),
+      omega arith,
       (
         reads-within (neg (n s)) tt,
         reads-within (neg (d s)) tt,
@@ -63,7 +60,7 @@ forward-requires c κs =
 forward-requires-2 : tie.Need-forward-requires-2
 forward-requires-2 c κs =
     let s = start (c .before) in (
-      (s .pre .0, s .pre .1),
+      omega arith,
       (
         reads-within (n s) tt,
         reads-within (d s) tt,

@@ -1,13 +1,12 @@
 -- `interpolation::doubled` meets its contract: twice the numerator of an estimate fits 64 bits.
 -- Assumes nothing.
-use lib.Dec.{lit≤}
-use Rattle.integers.specs.Formulas.{Formula, whole, nat, mul, asks, reads, reads-within}
+use Rattle.integers.specs.Formulas.{Formula, whole, literal, mul, asks, reads, reads-within}
 use Rattle.rules.specs.Rules.{doubledOf}
 use Rattle.interpolation.proofs.doubled.Statement.{statement}
 use Rattle.interpolation.proofs.doubled.Tie as tie
 
 abbrev num : tie.Start → Formula
-num s = mul (nat 2 {k = 2} (lit≤ tt) tt) (whole (s .args .u .num) (s .pre .num-in) tt)
+num s = mul (literal 2 tt) (whole (s .args .u .num) (s .pre .num-in) tt)
 
 abbrev den : tie.Start → Formula
 den s = whole (s .args .u .den) (s .pre .den-in) tt

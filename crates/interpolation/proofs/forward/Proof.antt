@@ -2,19 +2,19 @@
 -- negative and at most the width, so that the cast keeps it.
 -- Assumes nothing.
 use borrow.Author.Needs.{needs}
-use mathlib.Core.Path.{_≡_, _∙_, subst}
+use mathlib.Core.Path.{_≡_, _∙_}
 use mathlib.Core.Bool.{true, false}
-use Prim.Native.Nat.{ℕ, _*_, _/_, _≤_, _<_}
+use Prim.Native.Nat.{ℕ, _*_, _≤_}
 use native.Mathlib.Nat.{mul-comm, div-le-of-le-mul}
 use native.Mathlib.Omega.{arith}
-use lib.Dec.{T, lit≤}
+use lib.Dec.{T}
 use lib.IntN.{ℤ, pos, negsuc, natAbs, _*ℤ_}
 use lib.Signed.{ltZ, leZ, nonNeg, quotZ, _<ℤ_}
 use mir.Syntax.{w64}
 use borrow.Author.Tests.{leb-true}
 use Rattle.integers.specs.Signs.{never}
 use Rattle.integers.specs.Bounds.{bits-positive}
-use Rattle.integers.specs.Formulas.{Formula, whole, nat, mul, quot, value, asks, reads, test-lt, test-le}
+use Rattle.integers.specs.Formulas.{Formula, whole, nat, literal, mul, quot, value, asks, reads, tests}
 use Rattle.rules.specs.Rules.{forwardOf}
 use Rattle.interpolation.proofs.forward.Statement.{statement}
 use Rattle.interpolation.proofs.forward.Tie as tie
@@ -33,11 +33,8 @@ n s = whole (s .args .n) (s .pre .1 .0) tt
 abbrev d : tie.Start → Formula
 d s = whole (s .args .d) (s .pre .1 .1) tt
 
-abbrev zero : Formula
-zero = nat 0 {k = 0} (lit≤ tt) tt
-
 abbrev twice : tie.Start → Formula
-twice s = mul (nat 2 {k = 2} (lit≤ tt) tt) (n s)
+twice s = mul (literal 2 tt) (n s)
 
 abbrev low : tie.Start → Formula
 low s = mul (nat (s .args .tolerance) (s .pre .0 .0) tt) (d s)
@@ -47,17 +44,17 @@ high s = mul (nat (s .args .width) (s .pre .0 .1) tt) (d s)
 
 -- what the tests say, of the numbers
 not-below : (p : tie.Else1) → ltZ (p .before .args .n) (pos 0) ≡ false
-not-below p = test-lt (n (p .before)) zero tt ∙ p .if1 .left
+not-below p = tests ltZ (n (p .before)) (literal 0 tt) tt ∙ p .if1 .left
 
 not-near : (p : tie.Else2) → leZ (p .before .before .args .n) (value (low (p .before .before))) ≡ false
-not-near p = test-le (n (p .before .before)) (low (p .before .before)) tt ∙ p .if2 .left
+not-near p = tests leZ (n (p .before .before)) (low (p .before .before)) tt ∙ p .if2 .left
 
 not-past : (p : tie.Then3) → leZ (value (twice (p .before .before .before))) (value (high (p .before .before .before))) ≡ true
-not-past p = test-le (twice (p .before .before .before)) (high (p .before .before .before)) tt ∙ p .if3 .taken
+not-past p = tests leZ (twice (p .before .before .before)) (high (p .before .before .before)) tt ∙ p .if3 .taken
 
 returns : tie.Need-returns
 unfolding forwardOf
-returns c = rw (test-lt (n (c .before)) zero tt ∙ c .if1 .taken)
+returns c = rw (tests ltZ (n (c .before)) (literal 0 tt) tt ∙ c .if1 .taken)
 
 cast-if2 : tie.Need-cast-if2
 cast-if2 c = search needs
@@ -69,7 +66,7 @@ returns-2 : tie.Need-returns-2
 unfolding forwardOf
 returns-2 c =
     let s = c .before .before in
-    rw (not-below (c .before), test-le (n s) (low s) tt ∙ c .if2 .taken)
+    rw (not-below (c .before), tests leZ (n s) (low s) tt ∙ c .if2 .taken)
 
 mul-if3 : tie.Need-mul-if3
 mul-if3 c = asks (twice (c .before .before)) tt
@@ -101,7 +98,7 @@ returns-4 : tie.Need-returns-4
 unfolding forwardOf
 returns-4 c =
     let s = c .before .before .before in
-    rw (not-below (c .before .before), not-near (c .before), test-le (twice s) (high s) tt ∙ c .if3 .left)
+    rw (not-below (c .before .before), not-near (c .before), tests leZ (twice s) (high s) tt ∙ c .if3 .left)
 
 pub forward-spec : {M : Type 1} → statement M
 forward-spec =

@@ -1,22 +1,16 @@
 -- `interpolation::magnitude` meets its contract: of a negative number the negation is cast, and of any other the number. In 64 bits
 -- the negation of every 32-bit number fits.
 -- Assumes nothing.
-use mathlib.Core.Path.{_≡_, _∙_}
-use mathlib.Core.Bool.{true, false}
+use mathlib.Core.Path.{_∙_}
 use native.Mathlib.Omega.{arith}
-use lib.Dec.{lit≤}
-use lib.IntN.{pos}
 use lib.Signed.{ltZ}
 use Rattle.integers.specs.Bounds.{within-neg, fits-within, abs-neg, neg-of-negative, not-negative}
-use Rattle.integers.specs.Formulas.{Formula, wide, nat, neg, widens, asks, reads, test-lt}
+use Rattle.integers.specs.Formulas.{Formula, wide, literal, neg, widens, asks, reads, tests}
 use Rattle.interpolation.proofs.magnitude.Statement.{statement}
 use Rattle.interpolation.proofs.magnitude.Tie as tie
 
 abbrev n : tie.Start → Formula
 n s = wide (s .args .v) (s .fits .v) (fits-within (s .fits .v)) tt
-
-abbrev zero : Formula
-zero = nat 0 {k = 0} (lit≤ tt) tt
 
 cast-n : tie.Need-cast-n
 cast-n c = widens (c .fits .v)
@@ -28,13 +22,13 @@ cast-result : tie.Need-cast-result
 cast-result c =
     let s = c .before in
     rw (reads (neg (n s)) tt)
-    (neg-of-negative (s .args .v) (test-lt (n s) zero tt ∙ c .if1 .taken), omega (arith, within-neg (fits-within (s .fits .v))))
+    (neg-of-negative (s .args .v) (tests ltZ (n s) (literal 0 tt) tt ∙ c .if1 .taken), omega (arith, within-neg (fits-within (s .fits .v))))
 
 cast-result-2 : tie.Need-cast-result-2
 cast-result-2 c =
     let s = c .before in
     rw (reads (n s) tt)
-    (not-negative (s .args .v) (test-lt (n s) zero tt ∙ c .if1 .left), omega (arith, fits-within (s .fits .v)))
+    (not-negative (s .args .v) (tests ltZ (n s) (literal 0 tt) tt ∙ c .if1 .left), omega (arith, fits-within (s .fits .v)))
 
 returns : tie.Need-returns
 returns c = rw (reads (neg (n (c .before))) tt) (abs-neg (c .before .args .v))

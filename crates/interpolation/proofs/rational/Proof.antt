@@ -1,6 +1,7 @@
 -- `interpolation::rational` meets its contract: the rational estimate is the one with s = S and q = Q.
 -- Assumes nothing.
 use borrow.Author.Needs.{needs}
+use native.Mathlib.Omega.{arith}
 use Rattle.integers.specs.Formulas.{Formula, whole, sub, asks, reads, reads-within}
 use Rattle.interpolation.specs.Estimates.{rational-estimate}
 use Rattle.interpolation.proofs.rational.Statement.{statement}
@@ -22,9 +23,7 @@ sub-q : tie.Need-sub-q
 sub-q c = asks (q c) tt
 
 estimate-requires : tie.Need-estimate-requires
-estimate-requires c κs =
-    let p = c .before .before .pre in
-    (reads-within (s c) tt, reads-within (q c) tt, p .0 .near, p .1 .near)
+estimate-requires c κs = (reads-within (s c) tt, reads-within (q c) tt, omega arith, omega arith)
 
 returns : tie.Need-returns
 returns c =
