@@ -1,20 +1,34 @@
 -- Laws of the definitions that several functions of this crate cite.
 -- Assumes nothing.
-use mathlib.Core.Path.{_≡_, refl, sym}
+use mathlib.Core.Path.{_≡_, refl, sym, _∙_}
 use mathlib.Core.Bool.{Bool, true, false, cond, _||_, _&&_}
-use Prim.Native.Nat.{ℕ, zero, suc}
+use mathlib.Core.List.{List, [], _∷_, foldl}
+use Prim.Native.Nat.{ℕ, zero, suc, _+_, _-_, _*_, _^_, _≤_, _<_}
+use native.Mathlib.Nat.{pow-suc, lt-of-not-le, le-of-suc-le-suc}
+use native.Mathlib.Numerals.{add-one}
 use native.Mathlib.Omega.{arith}
-use borrow.Author.Tests.{ltb-true, le-ltb}
+use borrow.Author.Tests.{ltb-true, le-ltb, eq-eqb}
+use lib.Count.{leadingZeros, leading-length}
 use lib.IntN.{ℤ, pos, negsuc}
+use lib.ListN.{length, getD, drop, drop-of-length-le}
+use lib.Pow.{pow-mono}
+use lib.Seq.{drop-cons}
 use lib.Signed.{ltZ}
 use Rattle.integers.specs.Signs.{never}
+use Rattle.integers.specs.Digits.{digits, digits-least}
 use Rattle.rules.specs.declared.Opening.{Opening}
 use Rattle.rules.specs.declared.Sample.{Sample}
 use Rattle.rules.specs.declared.Bracket.{Bracket}
-use Rattle.rules.specs.Refusals.{sameSide}
-use Rattle.rules.specs.SearchLaws.{Limited, Sound}
+use Rattle.rules.specs.declared.Progress.{Progress}
+use Rattle.rules.specs.declared.Method.{Method}
+use Rattle.rules.specs.declared.Quote.{Quote}
+use Rattle.rules.specs.Rules.{slots, methodOf, allowed}
+use Rattle.rules.specs.Refusals.{openingRefusal, sameSide}
+use Rattle.rules.specs.RefusalsLaws.{Opened}
+use Rattle.rules.specs.Search.{beginOf, takeOf, offerOf, progressOf, tOf, quoteOf}
+use Rattle.rules.specs.SearchLaws.{Limited, Sound, SoundAt, sound-begin, sound-offer, most-slots}
 use Rattle.interpolation.specs.Ranges.{Measured}
-use Rattle.search.specs.Ready.{Surveyed}
+use Rattle.search.specs.Ready.{Countable, Surveyed, isRefused}
 
 -- ---- the side of the second value, by the sign of the first
 
@@ -51,3 +65,70 @@ surveyed s =
       third = measured (l .third);
       width = omega (arith, l .better .point, l .other .point);
     }
+
+-- and one more answer can be counted
+pub countable : {o : Opening} {k : Bracket} → Opened o → Sound o k → Countable k
+countable {o} {k} op s =
+    record {
+      taken = omega (arith, s .bound .most, most-slots o op);
+      streak = omega (arith, s .counted, s .bound .most, most-slots o op);
+    }
+
+-- ---- the walk over the values
+
+-- once refused, refused
+refused-stays : (o : Opening) (p : Progress) (vs : List ℤ) → isRefused p ≡ true → foldl (takeOf o) p vs ≡ p
+unfolding takeOf offerOf
+refused-stays o p [] e = refl
+refused-stays o Progress.Begun (v ∷ vs) e = never (sym e)
+refused-stays o (Progress.First u) (v ∷ vs) e = never (sym e)
+refused-stays o (Progress.Bracketed k) (v ∷ vs) e = never (sym e)
+refused-stays o (Progress.Refused n i) (v ∷ vs) e = refused-stays o (Progress.Refused n i) vs e
+
+-- i values have led to p: where the search stands after all of them is where it comes to from p over those that are left
+pub record Walked (o : Opening) (vs : List ℤ) (i : ℕ) (p : Progress) : Type 0 where
+  pub sound : SoundAt o p
+  pub onward : progressOf o vs ≡ foldl (takeOf o) p (drop i vs)
+
+pub walked-begin : (o : Opening) (vs : List ℤ) → Walked o vs 0 (beginOf o)
+unfolding progressOf
+walked-begin o vs = record { sound = sound-begin o; onward = refl }
+
+module _ (o : Opening) (vs : List ℤ) (i : ℕ) (p : Progress) (w : Walked o vs i p) where
+  pub walked-more : i < length vs → Walked o vs (i + 1) (offerOf o p false (getD vs i (pos 0)))
+  unfolding takeOf
+  walked-more h =
+      record {
+        sound = sound-offer o p false (getD vs i (pos 0)) (w .sound);
+        onward = w .onward ∙ rw (drop-cons vs i (pos 0) h, add-one i);
+      }
+
+  pub walked-refused : isRefused p ≡ true → p ≡ progressOf o vs
+  walked-refused e = sym (w .onward ∙ refused-stays o p (drop i vs) e)
+
+  pub walked-end : length vs ≤ i → p ≡ progressOf o vs
+  walked-end h = sym (w .onward ∙ rw (drop-of-length-le vs h))
+
+-- ---- the leading zeros of a number and its binary digits make 32
+
+pub digits-leading : (k : ℕ) → k < 2 ^ 32 → 32 - leadingZeros 32 k ≡ digits k
+digits-leading k h =
+    let s = leading-length 32 k h in
+    let d = digits-least k in
+    let low : digits k ≤ s .0 = d .least (s .0) (s .2) in
+    let high : s .0 ≤ digits k = le-of-suc-le-suc (lt-of-not-le (λ (l : suc (digits k) ≤ s .0). omega (arith, pow-mono l, pow-suc 2 (digits k), d .holds, s .3))) in
+    omega (arith, s .1)
+
+pub allowed-few : (m : Method) → allowed m ≤ 4
+allowed-few Method.M = omega arith
+allowed-few Method.R = omega arith
+
+-- ---- the quote, from the two numbers that make it
+
+module _ (o : Opening) (a t : ℕ) (e : a ≡ allowed (methodOf o)) (f : t ≡ tOf o) where
+  pub quote-fits : Opened o → 2 + (a + 1) * t ≤ slots
+  quote-fits op = rw (e, f) (most-slots o op)
+
+  pub quote-is : openingRefusal o ≡ 0 → Quote.Quoted t (2 + (a + 1) * t) ≡ quoteOf o
+  unfolding quoteOf
+  quote-is g = rw (e, f) (simp (eq-eqb _ 0 g))

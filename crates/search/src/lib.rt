@@ -45,7 +45,7 @@ fn end_beyond(first: i32, second: i32) -> bool
 }
 
 // The first refusal of an opening, or 0.
-pub fn opening_refusal(o: Opening) -> u32
+fn opening_refusal(o: Opening) -> u32
     ensures { λ r. ⌜ r ≡ openingRefusal o ⌝ }
 {
     if beyond(0, 2, o.method) {
@@ -64,14 +64,14 @@ pub fn opening_refusal(o: Opening) -> u32
 }
 
 // Whether a value is out of range.
-pub fn too_large(v: i32) -> bool
+fn too_large(v: i32) -> bool
     ensures { λ r. ⌜ r ≡ tooLarge v ⌝ }
 {
     rules::LARGEST_VALUE < interpolation::magnitude(v)
 }
 
 // Whether two values are both positive or both negative.
-pub fn same_side(v: i32, w: i32) -> bool
+fn same_side(v: i32, w: i32) -> bool
     ensures { λ r. ⌜ r ≡ sameSide v w ⌝ }
 {
     if 0 < v {
@@ -84,7 +84,7 @@ pub fn same_side(v: i32, w: i32) -> bool
 }
 
 // The first refusal of an answer, or 0.
-pub fn answer_refusal(stopped: bool, other: bool, large: bool, same: bool) -> u32
+fn answer_refusal(stopped: bool, other: bool, large: bool, same: bool) -> u32
     ensures { λ r. ⌜ r ≡ answerRefusal stopped other large same ⌝ }
 {
     if stopped {
@@ -102,7 +102,7 @@ pub fn answer_refusal(stopped: bool, other: bool, large: bool, same: bool) -> u3
 // ---- rules 1 and 2
 
 // The method that an opening's number stands for: 0 is the house default, M.
-pub fn method_of(o: Opening) -> Method
+fn method_of(o: Opening) -> Method
     ensures { λ r. ⌜ r ≡ methodOf o ⌝ }
 {
     if equal(o.method, 0) {
@@ -116,14 +116,14 @@ pub fn method_of(o: Opening) -> Method
 }
 
 // The tolerance at the better end b.
-pub fn tolerance_at(o: Opening, b: u32) -> u32
+fn tolerance_at(o: Opening, b: u32) -> u32
     ensures { λ r. ⌜ r ≡ toleranceAt o b ⌝ }
 {
     interpolation::magnitude(o.tolerance)
 }
 
 // Rule 1: the bracket of the first two samples.
-pub fn start(x0: Sample, x1: Sample) -> Bracket
+fn start(x0: Sample, x1: Sample) -> Bracket
     ensures { λ r. ⌜ r ≡ startOf x0 x1 ⌝ }
 {
     if interpolation::closer(x1, x0) {
@@ -157,14 +157,14 @@ fn gap(p: u32, q: u32) -> u32
 }
 
 // L = |b − c|.
-pub fn width(k: Bracket) -> u32
+fn width(k: Bracket) -> u32
     ensures { λ r. ⌜ r ≡ widthOf k ⌝ }
 {
     gap(k.better.point, k.other.point)
 }
 
 // Rule 2: the search stops when L ≤ 2τ.
-pub fn stopped(o: Opening, k: Bracket) -> bool
+fn stopped(o: Opening, k: Bracket) -> bool
     ensures { λ r. ⌜ r ≡ stoppedOf o k ⌝ }
 {
     width(k) as u64 <= 2 * tolerance_at(o, k.better.point) as u64
@@ -173,7 +173,7 @@ pub fn stopped(o: Opening, k: Bracket) -> bool
 // ---- rules 6 and 7
 
 // Rule 6: the point answered just before x, or the end of the bracket that is not that point.
-pub fn partner(k: Bracket, x: Sample) -> Sample
+fn partner(k: Bracket, x: Sample) -> Sample
     ensures { λ r. ⌜ r ≡ partnerOf k x ⌝ }
 {
     let last = k.last;
@@ -234,7 +234,7 @@ fn renewed(k: Bracket, x: Sample, b: Sample, c: Sample, a: Sample) -> Bracket
 }
 
 // Rule 6: the bracket after a new point with its value.
-pub fn advance(k: Bracket, x: Sample) -> Bracket
+fn advance(k: Bracket, x: Sample) -> Bracket
     requires { ⌜ Countable k ⌝ }
     ensures { λ r. ⌜ r ≡ advanceOf k x ⌝ }
 {
@@ -249,7 +249,7 @@ pub fn advance(k: Bracket, x: Sample) -> Bracket
 // ---- rule 8
 
 // What M and R use at each streak.
-pub fn step_at(method: Method, first: bool, streak: u32) -> Step
+fn step_at(method: Method, first: bool, streak: u32) -> Step
     ensures { λ r. ⌜ r ≡ stepOf method first streak ⌝ }
 {
     match method {
@@ -319,7 +319,7 @@ fn offset(o: Opening, k: Bracket) -> u32
 }
 
 // The next point: b + D or b − D.
-pub fn next_point(o: Opening, k: Bracket) -> u32
+fn next_point(o: Opening, k: Bracket) -> u32
     requires { ⌜ Ready o k ⌝ }
     ensures { λ r. ⌜ r ≡ nextOf o k ⌝ }
 {
@@ -418,6 +418,7 @@ fn bracket_report(o: Opening, k: Bracket) -> Report
     requires { ⌜ (Opened o) × (Sound o k) ⌝ }
     ensures { λ r. ⌜ r ≡ bracketReport o k ⌝ }
 {
+    let taken = k.taken;
     if stopped(o, k) {
         let b = k.better.point;
         let c = k.other.point;
@@ -426,21 +427,19 @@ fn bracket_report(o: Opening, k: Bracket) -> Report
                 lower: b,
                 upper: c,
                 better: b,
-                taken: k.taken,
+                taken,
             }
         } else {
             Report::Stop {
                 lower: c,
                 upper: b,
                 better: b,
-                taken: k.taken,
+                taken,
             }
         }
     } else {
-        Report::Next {
-            point: next_point(o, k),
-            taken: k.taken,
-        }
+        let point = next_point(o, k);
+        Report::Next { point, taken }
     }
 }
 
@@ -450,14 +449,14 @@ pub fn report_at(o: Opening, p: Progress) -> Report
     ensures { λ r. ⌜ r ≡ reportAt o p ⌝ }
 {
     match p {
-        Progress::Begun => Report::Next {
-            point: interpolation::magnitude(o.first),
-            taken: 0,
-        },
-        Progress::First { value: _ } => Report::Next {
-            point: interpolation::magnitude(o.second),
-            taken: 1,
-        },
+        Progress::Begun => {
+            let point = interpolation::magnitude(o.first);
+            Report::Next { point, taken: 0 }
+        }
+        Progress::First { value: _ } => {
+            let point = interpolation::magnitude(o.second);
+            Report::Next { point, taken: 1 }
+        }
         Progress::Bracketed { bracket } => bracket_report(o, bracket),
         Progress::Refused { number, place } => Report::Refused { number, place },
     }

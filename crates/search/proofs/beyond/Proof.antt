@@ -6,7 +6,7 @@ use borrow.Author.Needs.{needs}
 use lib.IntN.{pos}
 use lib.Signed.{ltZ}
 use Rattle.integers.specs.Bounds.{fits-within}
-use Rattle.integers.specs.Formulas.{Formula, wide, nat, widens, reads, test-lt}
+use Rattle.integers.specs.Formulas.{Formula, wide, nat, widens, tests}
 use native.Mathlib.Omega.{arith}
 use Rattle.search.proofs.beyond.Statement.{statement}
 use Rattle.search.proofs.beyond.Tie as tie
@@ -30,11 +30,11 @@ cast-result : tie.Need-cast-result
 cast-result c = search needs
 
 returns : tie.Need-returns
-returns c = rw (c .if1 .taken) (rw (test-lt (number (c .before)) (low (c .before)) tt ∙ c .if1 .taken))
+returns c = rw (c .if1 .taken) (rw (tests ltZ (number (c .before)) (low (c .before)) tt ∙ c .if1 .taken))
 
 returns-2 : tie.Need-returns-2
 returns-2 c =
-    rw (← test-lt (high (c .before)) (number (c .before)) tt, test-lt (number (c .before)) (low (c .before)) tt ∙ c .if1 .left)
+    rw (← tests ltZ (high (c .before)) (number (c .before)) tt, tests ltZ (number (c .before)) (low (c .before)) tt ∙ c .if1 .left)
 
 pub beyond-spec : {M : Type 1} → statement M
 beyond-spec = tie.close (tie.spec cast-n cast-if1 cast-result returns returns-2)

@@ -1,30 +1,35 @@
+-- `search::bracket_report` meets its contract: the ends in order at the stop, and else the next point.
+-- Assumes nothing.
+use mathlib.Core.Path.{_≡_, sym, _∙_}
+use native.Mathlib.Nat.{min-eq-left, min-eq-right, max-eq-left, max-eq-right, le-of-lt}
+use Rattle.rules.specs.Search.{bracketReport}
 use borrow.Author.Needs.{needs}
 use Rattle.search.proofs.bracket_report.Statement.{statement}
 use Rattle.search.proofs.bracket_report.Tie as tie
-use Rattle.search.proofs.bracket_report.Reads as reads
-use Rattle.search.proofs.bracket_report.Lts as lts
-use Rattle.search.proofs.next_point.Reads as next-point-reads
-use Rattle.search.proofs.stopped.Reads as stopped-reads
 
--- src/lib.rt:421:8
 stopped-requires : tie.Need-stopped-requires
 stopped-requires c κs = search needs
 
--- src/lib.rt:441:20
 next-point-requires : tie.Need-next-point-requires
-next-point-requires c κs = ?
+next-point-requires c κs =
+    let s = c .before .before in
+    record { opened = s .pre .0; sound = s .pre .1; going = sym (c .before .stopped .ensures) ∙ c .if1 .left }
 
--- src/lib.rt:417:1
 returns : tie.Need-returns
-returns c = ?
+unfolding bracketReport
+returns c =
+    let e = sym (c .before .before .stopped .ensures) ∙ c .before .if1 .taken in
+    simp (e, min-eq-left (c .if2 .taken), max-eq-right (c .if2 .taken))
 
--- src/lib.rt:417:1
 returns-2 : tie.Need-returns-2
-returns-2 c = ?
+unfolding bracketReport
+returns-2 c =
+    let e = sym (c .before .before .stopped .ensures) ∙ c .before .if1 .taken in
+    simp (e, min-eq-right (le-of-lt (c .if2 .left)), max-eq-left (le-of-lt (c .if2 .left)))
 
--- src/lib.rt:417:1
 returns-3 : tie.Need-returns-3
-returns-3 c = ?
+unfolding bracketReport
+returns-3 c = simp (sym (c .before .before .stopped .ensures) ∙ c .before .if1 .left, c .next-point .ensures)
 
 pub bracket-report-spec : {M : Type 1} → statement M
 bracket-report-spec =

@@ -1,28 +1,32 @@
+-- `search::turns` meets its contract: 32 less the leading zeros of a number is the number of its binary digits.
+-- Assumes nothing.
+use Prim.Native.Nat.{_-_, _*_, _/_}
+use native.Mathlib.Nat.{div-le-self}
+use native.Mathlib.Omega.{arith}
+use lib.Count.{leading-le}
+use Rattle.rules.specs.Search.{turnsOf}
+use Rattle.search.proofs.Laws.{digits-leading}
 use borrow.Author.Needs.{needs}
 use Rattle.search.proofs.turns.Statement.{statement}
 use Rattle.search.proofs.turns.Tie as tie
-use Rattle.search.proofs.turns.Reads as reads
-use Rattle.search.proofs.turns.Lts as lts
 
--- src/lib.rt:515:30
 sub-result : tie.Need-sub-result
 sub-result c = search needs
 
--- src/lib.rt:515:47
 mul-result : tie.Need-mul-result
 mul-result c = search needs
 
--- src/lib.rt:515:29
 div-result : tie.Need-div-result
 div-result c = search needs
 
--- src/lib.rt:515:5
 sub-result-2 : tie.Need-sub-result-2
-sub-result-2 c = ?
+sub-result-2 c = leading-le 32 _
 
--- src/lib.rt:511:1
 returns : tie.Need-returns
-returns c = ?
+unfolding turnsOf
+returns c =
+    let k = (c .args .distance - 1) / (2 * c .args .tolerance) in
+    digits-leading k (omega (arith, div-le-self (c .args .distance - 1) (2 * c .args .tolerance), c .fits .distance .fits))
 
 pub turns-spec : {M : Type 1} → statement M
 turns-spec = tie.close (tie.spec sub-result mul-result div-result sub-result-2 returns)
