@@ -5,6 +5,7 @@ ghost use Prim.Native.Nat.{_≤_, _*_};
 ghost use lib.IntN.{pos, natAbs};
 ghost use lib.Signed.{_<ℤ_};
 ghost use Rattle.integers.specs.Bounds.{Within};
+ghost use Rattle.integers.specs.Signs.{eqZ};
 ghost use Rattle.rules.specs.Rules.{closer, opposed, linearOf, crossOf, rationalOf, doubledOf, forwardOf, displacementOf};
 ghost use Rattle.interpolation.specs.Ranges.{widest, Measured, mostCross, mostNum, mostDen, Small};
 ghost use Rattle.interpolation.specs.Estimates.{estimateOf};
@@ -17,6 +18,13 @@ pub fn magnitude(v: i32) -> u32
 {
     let n = v as i64;
     if n < 0 { (-n) as u32 } else { n as u32 }
+}
+
+// Whether two numbers are equal.
+pub fn equal(a: i32, b: i32) -> bool
+    ensures { λ r. ⌜ r ≡ eqZ a b ⌝ }
+{
+    a == b
 }
 
 // Whether the value of p is at least as close to zero as that of q.

@@ -17,7 +17,6 @@ use lib.Signed.{ltZ}
 use Rattle.integers.specs.Signs.{never}
 use Rattle.integers.specs.Digits.{digits, digits-least}
 use Rattle.rules.specs.declared.Opening.{Opening}
-use Rattle.rules.specs.declared.Sample.{Sample}
 use Rattle.rules.specs.declared.Bracket.{Bracket}
 use Rattle.rules.specs.declared.Progress.{Progress}
 use Rattle.rules.specs.declared.Method.{Method}
@@ -26,9 +25,8 @@ use Rattle.rules.specs.Rules.{slots, methodOf, allowed}
 use Rattle.rules.specs.Refusals.{openingRefusal, sameSide}
 use Rattle.rules.specs.RefusalsLaws.{Opened}
 use Rattle.rules.specs.Search.{beginOf, takeOf, offerOf, progressOf, tOf, quoteOf}
-use Rattle.rules.specs.SearchLaws.{Limited, Sound, SoundAt, sound-begin, sound-offer, most-slots}
-use Rattle.interpolation.specs.Ranges.{Measured}
-use Rattle.search.specs.Ready.{Countable, Surveyed, isRefused}
+use Rattle.rules.specs.SearchLaws.{SoundAt, sound-begin, sound-offer, most-slots}
+use Rattle.search.specs.Refused.{isRefused}
 
 -- ---- the side of the second value, by the sign of the first
 
@@ -50,29 +48,6 @@ side-below v w e f = simp (e, f)
 pub side-neither : (v w : ℤ) → ltZ (pos 0) v ≡ false → ltZ v (pos 0) ≡ false → sameSide v w ≡ false
 unfolding sameSide
 side-neither v w e f = simp (e, f)
-
--- ---- a bracket that answers have led to is in the range of the estimates
-
-measured : {s : Sample} → Limited s → Measured s
-measured l = record { near = omega (arith, l .point); small = record { abs-le = l .value } }
-
-pub surveyed : {o : Opening} {k : Bracket} → Sound o k → Surveyed k
-surveyed s =
-    let l = s .limits in
-    record {
-      better = measured (l .better);
-      previous = measured (l .previous);
-      third = measured (l .third);
-      width = omega (arith, l .better .point, l .other .point);
-    }
-
--- and one more answer can be counted
-pub countable : {o : Opening} {k : Bracket} → Opened o → Sound o k → Countable k
-countable {o} {k} op s =
-    record {
-      taken = omega (arith, s .bound .most, most-slots o op);
-      streak = omega (arith, s .counted, s .bound .most, most-slots o op);
-    }
 
 -- ---- the walk over the values
 

@@ -10,7 +10,7 @@ use Rattle.rules.specs.declared.Progress.{Progress}
 use Rattle.rules.specs.Rules.{stoppedOf}
 use Rattle.rules.specs.Refusals.{answerRefusal, tooLarge}
 use Rattle.rules.specs.RefusalsLaws.{answer-passed}
-use Rattle.search.proofs.Laws.{countable}
+use Rattle.steps.specs.ReadyLaws.{countable}
 use borrow.Author.Needs.{needs}
 use Rattle.search.proofs.offer_more.Statement.{statement}
 use Rattle.search.proofs.offer_more.Tie as tie

@@ -1,0 +1,28 @@
+-- What the inner functions ask: a bracket that answers have led to, and whose search goes on.
+-- Assumes nothing.
+use Prim.Native.Nat.{ℕ, _+_, _≤_, _<_}
+use mathlib.Core.Path.{_≡_}
+use mathlib.Core.Bool.{Bool, true, false}
+use Rattle.rules.specs.declared.Opening.{Opening}
+use Rattle.rules.specs.declared.Bracket.{Bracket}
+use Rattle.interpolation.specs.Ranges.{widest, Measured}
+use Rattle.rules.specs.Rules.{stoppedOf, widthOf}
+use Rattle.rules.specs.RefusalsLaws.{Opened}
+use Rattle.rules.specs.SearchLaws.{Sound}
+
+-- one more answer can be counted
+pub record Countable (k : Bracket) : Type 0 where
+  pub taken : k .taken < 4294967295
+  pub streak : k .streak < 4294967295
+
+-- its points and values are in the range of the estimates
+pub record Surveyed (k : Bracket) : Type 0 where
+  pub better : Measured (k .better)
+  pub previous : Measured (k .previous)
+  pub third : Measured (k .third)
+  pub width : widthOf k ≤ widest
+
+pub record Ready (o : Opening) (k : Bracket) : Type 0 where
+  pub opened : Opened o
+  pub sound : Sound o k
+  pub going : stoppedOf o k ≡ false
