@@ -6,13 +6,13 @@ use mathlib.Core.Bool.{Bool, true, false, not, cond}
 use Prim.Native.Nat.{ℕ, zero, suc, _+_, _-_, _*_, _/_, _^_, _≤_, _<_}
 use native.Mathlib.Nat.{le-refl, le-trans, le-of-eq, lt-of-le-of-lt, mul-le-mul, div-le-self}
 use native.Mathlib.Omega.{arith}
-use lib.Dec.{T, ltb, ltb→lt, lt→ltb}
+use lib.Dec.{T, ltb, eqb, ltb→lt, lt→ltb}
 use lib.IntN.{ℤ, pos, negsuc, negℤ, natAbs, subℕ, _+ℤ_, _-ℤ_, _*ℤ_, +ℤ-idl}
 use lib.Signed.{mag, nonNeg, quotZ, ltZ, _<ℤ_, natAbs-le}
 use mir.Syntax.{Width, w32, w64}
 use mir.Val.{SFits, hbits, toZ, ofZ}
 use mir.Facts.{toZ-ofZ}
-use borrow.Author.Tests.{ltb-true}
+use borrow.Author.Tests.{ltb-true, eqb-true, eqb-false}
 use Rattle.integers.specs.Signs.{eqZ, never, eq-eqZ, ne-eqZ}
 
 -- ---- the absolute value through the operations
@@ -153,3 +153,10 @@ bits-same {w} {a} {b} f g e = eq-eqZ a b (sym (read f) ∙ ap (toZ w) e ∙ read
 -- `a == b` did not hold
 pub bits-other : (w : Width) (a b : ℤ) → (ofZ w a ≡ ofZ w b → ⊥) → eqZ a b ≡ false
 bits-other w a b h = ne-eqZ a b (λ e. h (ap (ofZ w) e))
+
+pub bits-equal : {w : Width} {a b : ℤ} → SFits w a → SFits w b → eqb (ofZ w a) (ofZ w b) ≡ eqZ a b
+bits-equal {w} {a} {b} f g = go (eqb (ofZ w a) (ofZ w b)) refl
+  where
+    go : (t : Bool) → eqb (ofZ w a) (ofZ w b) ≡ t → t ≡ eqZ a b
+    go true e = sym (bits-same f g (eqb-true _ _ e))
+    go false e = sym (bits-other w a b (eqb-false _ _ e))

@@ -1,11 +1,12 @@
 -- The search over a list of values, from scratch: where it stands after the values so far, the report on that, and the quote.
 -- Assumes nothing.
 use Prim.Native.Nat.{ℕ, _+_, _-_, _*_, _/_}
-use mathlib.Core.Bool.{Bool, true, false, cond}
+use mathlib.Core.Bool.{Bool, true, false, cond, not, _&&_}
 use mathlib.Core.List.{List, [], _∷_, foldl}
 use lib.Dec.{eqb}
 use lib.IntN.{ℤ, pos, natAbs}
 use Rattle.integers.specs.Digits.{digits}
+use Rattle.integers.specs.Signs.{eqZ}
 use Rattle.rules.specs.declared.Opening.{Opening}
 use Rattle.rules.specs.declared.Sample.{Sample}
 use Rattle.rules.specs.declared.Bracket.{Bracket}
@@ -28,6 +29,12 @@ takenOf (Progress.First v) = 1
 takenOf (Progress.Bracketed k) = k .taken
 takenOf (Progress.Refused n i) = i
 
+abbrev pub isRefused : Progress → Bool
+isRefused Progress.Begun = false
+isRefused (Progress.First v) = false
+isRefused (Progress.Bracketed k) = false
+isRefused (Progress.Refused n i) = true
+
 -- below two answers there is no stop
 abbrev pub stoppedAt : Opening → Progress → Bool
 stoppedAt o Progress.Begun = false
@@ -42,12 +49,13 @@ sameSideAt (Progress.First u) v = sameSide u v
 sameSideAt (Progress.Bracketed k) v = false
 sameSideAt (Progress.Refused n i) v = false
 
--- x0 at 0, x1 at 1, and from 2 on the next point of the bracket
-abbrev pub pointAt : Opening → Progress → ℕ
-pointAt o Progress.Begun = firstOf o
-pointAt o (Progress.First v) = secondOf o
-pointAt o (Progress.Bracketed k) = nextOf o k
-pointAt o (Progress.Refused n i) = 0
+-- whether x is another point than the one called for: x0 at 0, x1 at 1, from 2 on the next point of the bracket. Once stopped or
+-- refused, none is called for
+abbrev pub otherAt : Opening → Progress → ℤ → Bool
+otherAt o Progress.Begun x = not (eqZ x (pos (firstOf o)))
+otherAt o (Progress.First v) x = not (eqZ x (pos (secondOf o)))
+otherAt o (Progress.Bracketed k) x = not (stoppedOf o k) && not (eqZ x (pos (nextOf o k)))
+otherAt o (Progress.Refused n i) x = false
 
 -- with the value of the point called for
 abbrev pub enteredAt : Opening → Progress → ℤ → Progress
@@ -58,7 +66,7 @@ enteredAt o (Progress.Bracketed k) v = Progress.Bracketed (advanceOf k (record {
 enteredAt o (Progress.Refused n i) v = Progress.Refused n i
 
 -- one answer more, to a search that is not refused: the first refusal of its row, with the index of the answer, or the answer is
--- entered. `other` says that a point is given and is another than the one called for
+-- entered. `other` says that its point, where one is given, is not the one called for
 abbrev pub answeredAt : Opening → Progress → Bool → ℤ → Progress
 answeredAt o p other v =
     let n = answerRefusal (stoppedAt o p) other (tooLarge v) (sameSideAt p v) in

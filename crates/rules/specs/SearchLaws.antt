@@ -25,7 +25,7 @@ use Rattle.rules.specs.Rules.{highest, largestTolerance, largestValue, s
 use Rattle.rules.specs.RulesLaws.{Ahead, next-ahead, offset-in, going-wide, Held, Partner, partner-is, Inside, Advance, advance-is, advance-taken, Start, start-is, start-counts, Halves, bisection-halves, forced}
 use Rattle.rules.specs.Refusals.{openingRefusal, answerRefusal, tooLarge, sameSide, Accepted}
 use Rattle.rules.specs.RefusalsLaws.{Opened, opened, Passed, answer-passed, crossing-opposed, opposed-crossing}
-use Rattle.rules.specs.Search.{beginOf, stoppedAt, sameSideAt, takenOf, pointAt, enteredAt, answeredAt, offerOf, takeOf, progressOf, distanceOf, tOf, mostOf}
+use Rattle.rules.specs.Search.{beginOf, stoppedAt, sameSideAt, takenOf, enteredAt, answeredAt, offerOf, takeOf, progressOf, distanceOf, tOf, mostOf}
 use Rattle.rules.specs.BoundLaws.{turns-least, turns-few, Bound, bound-start, bound-below, bound-step}
 
 -- ---- what is known of a bracket that answers have led to

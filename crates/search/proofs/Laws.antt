@@ -24,9 +24,8 @@ use Rattle.rules.specs.declared.Quote.{Quote}
 use Rattle.rules.specs.Rules.{slots, methodOf, allowed}
 use Rattle.rules.specs.Refusals.{openingRefusal, sameSide}
 use Rattle.rules.specs.RefusalsLaws.{Opened}
-use Rattle.rules.specs.Search.{beginOf, takeOf, offerOf, progressOf, tOf, quoteOf}
+use Rattle.rules.specs.Search.{isRefused, beginOf, takeOf, offerOf, progressOf, tOf, quoteOf}
 use Rattle.rules.specs.SearchLaws.{SoundAt, sound-begin, sound-offer, most-slots}
-use Rattle.search.specs.Refused.{isRefused}
 
 -- ---- the side of the second value, by the sign of the first
 

@@ -1,16 +1,17 @@
 // The search over a list of values: the refusals of an opening and of an answer, the report on a lent slice of any length, and the
 // quote. The steps are those of crate `steps`.
 ghost use mathlib.Core.Path.{_≡_};
-ghost use mathlib.Core.Bool.{_||_};
+ghost use mathlib.Core.Bool.{not, _||_};
+ghost use lib.IntN.{pos};
 ghost use Prim.Native.Nat.{_≤_};
+ghost use Rattle.integers.specs.Signs.{eqZ};
 ghost use Rattle.interpolation.specs.Ranges.{widest};
 ghost use Rattle.rules.specs.Rules.{highest, allowed};
 ghost use Rattle.rules.specs.Refusals.{openingRefusal, answerRefusal, tooLarge, sameSide, outside};
 ghost use Rattle.rules.specs.RefusalsLaws.{Opened};
-ghost use Rattle.rules.specs.Search.{beginOf, answeredAt, offerOf, bracketReport, reportAt, reportOf, turnsOf, quoteOf};
+ghost use Rattle.rules.specs.Search.{isRefused, beginOf, otherAt, answeredAt, offerOf, progressOf, bracketReport, reportAt, reportOf, turnsOf, quoteOf};
 ghost use Rattle.rules.specs.SearchLaws.{Sound, SoundAt};
 ghost use Rattle.rules.specs.declared.Progress.the-variants.{First, Bracketed};
-ghost use Rattle.search.specs.Refused.{isRefused};
 use rules::Bracket;
 use rules::Method;
 use rules::Opening;
@@ -176,6 +177,34 @@ pub fn offer(o: Opening, p: Progress, other: bool, v: i32) -> Progress
     }
 }
 
+// Whether x is not the point p.
+fn differs(x: i32, p: u32) -> bool
+    ensures { λ r. ⌜ r ≡ not (eqZ x (pos p)) ⌝ }
+{
+    x as i64 != p as i64
+}
+
+// Whether x is another point than the one called for.
+pub fn is_other(o: Opening, p: Progress, x: i32) -> bool
+    requires { ⌜ SoundAt o p ⌝ }
+    ensures { λ r. ⌜ r ≡ otherAt o p x ⌝ }
+{
+    match p {
+        Progress::Begun => differs(x, interpolation::magnitude(o.first)),
+        Progress::First { value: _ } => differs(x, interpolation::magnitude(o.second)),
+        Progress::Bracketed { bracket } => {
+            if steps::stopped(o, bracket) {
+                return false;
+            }
+            differs(x, steps::next_point(o, bracket))
+        }
+        Progress::Refused {
+            number: _,
+            place: _,
+        } => false,
+    }
+}
+
 // The report on a bracket: the stop, or the next point.
 fn bracket_report(o: Opening, k: Bracket) -> Report
     requires { ⌜ (Opened o) × (Sound o k) ⌝ }
@@ -240,9 +269,9 @@ pub fn is_refused(p: Progress) -> bool
     }
 }
 
-// The report on an opening and the values answered so far, of any length.
-pub fn report_on(o: Opening, values: &[i32]) -> Report
-    ensures { λ r. ⌜ r ≡ reportOf o (now (values .entry)) ⌝ }
+// Where a search stands after the values answered so far, of any length.
+pub fn progress_on(o: Opening, values: &[i32]) -> Progress
+    ensures { λ r. ⌜ r ≡ progressOf o (now (values .entry)) ⌝ }
 {
     let mut p = begin(o);
     let mut i: usize = 0;
@@ -250,11 +279,18 @@ pub fn report_on(o: Opening, values: &[i32]) -> Report
         let v = values[i];
         p = offer(o, p, false, v);
         if is_refused(p) {
-            return report_at(o, p);
+            return p;
         }
         i += 1;
     }
-    report_at(o, p)
+    p
+}
+
+// The report on an opening and the values answered so far, of any length.
+pub fn report_on(o: Opening, values: &[i32]) -> Report
+    ensures { λ r. ⌜ r ≡ reportOf o (now (values .entry)) ⌝ }
+{
+    report_at(o, progress_on(o, values))
 }
 
 // ---- the quote

@@ -1,104 +1,23 @@
--- `search::report_on` meets its contract. The loop's invariant: what is known of where the search stands holds, and where it stands
--- after all the values is where it comes to from here over those that are left.
+-- `search::report_on` meets its contract: the report on where the values lead, of which all that `report_at` asks is known.
 -- Assumes nothing.
-use Prim.Native.Nat.{_+_, _-_, _≤_}
 use mathlib.Core.Path.{sym, ap, subst, _∙_}
-use native.Mathlib.Omega.{arith}
 use borrow.Author.Needs.{needs}
-use lib.IntN.{pos}
-use lib.ListN.{length, getD}
-use mir.Syntax.{w32}
-use mir.Val.{SFits}
-use Rattle.integers.specs.Bounds.{read}
 use Rattle.rules.specs.Search.{reportAt, reportOf}
-use Rattle.search.proofs.Laws.{Walked, walked-begin, walked-more, walked-refused, walked-end}
+use Rattle.rules.specs.SearchLaws.{SoundAt, sound}
 use Rattle.search.proofs.report_on.Statement.{statement}
 use Rattle.search.proofs.report_on.Tie as tie
 
-abbrev Inv-loop : tie.InvT-loop
-Inv-loop o values p₀ i₀ p i = (i ≤ length values) × Walked o values i p
+progress-on-requires : tie.Need-progress-on-requires
+progress-on-requires c κs = search needs
 
-abbrev μ-loop : tie.MeasureT-loop
-μ-loop o values p₀ i₀ p i = length values - i
-
--- what is known once a value has been taken
-abbrev start-of : tie.After-offer Inv-loop μ-loop → tie.Start Inv-loop μ-loop
-start-of c = c .before .before .before .before .before
-
-taken : (c : tie.After-offer Inv-loop μ-loop) → Walked (start-of c .args .o) (start-of c .args .values .now) (c .before .before .before .loop .i + 1) (c .offer .result)
-taken c =
-    let o = start-of c .args .o in
-    let vs = start-of c .args .values .now in
-    let l = c .before .before .before .loop in
-    let f : SFits w32 (getD vs (l .i) (pos 0)) = search needs in
-    subst (Walked o vs (l .i + 1)) (sym (rw (read f) at (c .offer .ensures))) (walked-more o vs (l .i) (l .p) (l .inv .1) (c .before .before .loop-test .taken))
-
-begin-requires : tie.Need-begin-requires Inv-loop μ-loop
-begin-requires c κs = search needs
-
-loop-holds : tie.Need-loop-holds Inv-loop μ-loop
-loop-holds c =
+report-at-requires : tie.Need-report-at-requires
+report-at-requires c κs =
     let s = c .before in
-    (omega arith, subst (Walked (s .args .o) (s .args .values .now) 0) (sym (c .begin .ensures)) (walked-begin (s .args .o) (s .args .values .now)))
+    subst (SoundAt (s .args .o)) (sym (c .progress-on .ensures)) (sound (s .args .o) _)
 
-mul-v : tie.Need-mul-v Inv-loop μ-loop
-mul-v c = search needs
-
-shared-slice-copy-out-v : tie.Need-shared-slice-copy-out-v Inv-loop μ-loop
-shared-slice-copy-out-v c = search needs
-
-offer-requires : tie.Need-offer-requires Inv-loop μ-loop
-offer-requires c κs = c .before .before .loop .inv .1 .sound
-
-is-refused-requires : tie.Need-is-refused-requires Inv-loop μ-loop
-is-refused-requires c κs = search needs
-
-report-at-requires : tie.Need-report-at-requires Inv-loop μ-loop
-report-at-requires c κs = taken (c .before .before) .sound
-
-returns : tie.Need-returns Inv-loop μ-loop
+returns : tie.Need-returns
 unfolding reportOf
-returns c =
-    let o = c .before .before .before in
-    c .report-at .ensures
-    ∙ ap (reportAt (start-of o .args .o))
-    (walked-refused _ _ _ (o .offer .result) (taken o) (sym (c .before .before .is-refused .ensures) ∙ c .before .if1 .taken))
-
-add-i : tie.Need-add-i Inv-loop μ-loop
-add-i c = search needs
-
-loop-less : tie.Need-loop-less Inv-loop μ-loop
-loop-less c = search needs
-
-loop-again : tie.Need-loop-again Inv-loop μ-loop
-loop-again c = (omega arith, taken (c .before .before))
-
-report-at-requires-2 : tie.Need-report-at-requires-2 Inv-loop μ-loop
-report-at-requires-2 c κs = c .before .loop .inv .1 .sound
-
-returns-2 : tie.Need-returns-2 Inv-loop μ-loop
-unfolding reportOf
-returns-2 c =
-    let l = c .before .before .loop in
-    c .report-at2 .ensures
-    ∙ ap (reportAt (c .before .before .before .before .args .o)) (walked-end _ _ (l .i) (l .p) (l .inv .1) (c .before .loop-test .left))
+returns c = c .report-at .ensures ∙ ap (reportAt (c .before .before .args .o)) (c .before .progress-on .ensures)
 
 pub report-on-spec : {M : Type 1} → statement M
-report-on-spec =
-    tie.close
-    (tie.spec
-    Inv-loop
-    μ-loop
-    begin-requires
-    loop-holds
-    mul-v
-    shared-slice-copy-out-v
-    offer-requires
-    is-refused-requires
-    report-at-requires
-    returns
-    add-i
-    loop-less
-    loop-again
-    report-at-requires-2
-    returns-2)
+report-on-spec = tie.close (tie.spec progress-on-requires report-at-requires returns)
