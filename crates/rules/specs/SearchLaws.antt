@@ -25,7 +25,7 @@ use Rattle.rules.specs.Rules.{highest, largestTolerance, largestValue, s
 use Rattle.rules.specs.RulesLaws.{Ahead, next-ahead, offset-in, going-wide, Held, Partner, partner-is, Inside, Advance, advance-is, advance-taken, Start, start-is, start-counts, Halves, bisection-halves, forced}
 use Rattle.rules.specs.Refusals.{openingRefusal, answerRefusal, tooLarge, sameSide, Accepted}
 use Rattle.rules.specs.RefusalsLaws.{Opened, opened, Passed, answer-passed, crossing-opposed, opposed-crossing}
-use Rattle.rules.specs.Search.{beginOf, stoppedAt, sameSideAt, takenOf, enteredAt, answeredAt, offerOf, takeOf, progressOf, distanceOf, tOf, mostOf}
+use Rattle.rules.specs.Search.{isRefused, beginOf, stoppedAt, sameSideAt, takenOf, enteredAt, answeredAt, offerOf, takeOf, progressOf, distanceOf, tOf, mostOf}
 use Rattle.rules.specs.BoundLaws.{turns-least, turns-few, Bound, bound-start, bound-below, bound-step}
 
 -- ---- what is known of a bracket that answers have led to
@@ -260,6 +260,49 @@ took o k v k' = go (eqb (answerRefusal (stoppedOf o k) false (tooLarge v) false)
     go true h e = record { going = answer-passed _ _ _ _ (eqb-true _ _ h) .going; bracket = sym (bracketed _ _ e) }
     go false h e = let z : _≡_ {A = ℕ} 0 1 = cc in absurd (omega arith)
 
+-- ---- once refused, refused
+
+pub refused-stays : (o : Opening) (p : Progress) (vs : List ℤ) → isRefused p ≡ true → foldl (takeOf o) p vs ≡ p
+unfolding takeOf offerOf
+refused-stays o p [] e = refl
+refused-stays o Progress.Begun (v ∷ vs) e = never (sym e)
+refused-stays o (Progress.First u) (v ∷ vs) e = never (sym e)
+refused-stays o (Progress.Bracketed k) (v ∷ vs) e = never (sym e)
+refused-stays o (Progress.Refused n i) (v ∷ vs) e = refused-stays o (Progress.Refused n i) vs e
+
+-- a list that is not refused has an accepted opening
+pub accepted-of : (o : Opening) (vs : List ℤ) → isRefused (progressOf o vs) ≡ false → Accepted o
+unfolding progressOf beginOf
+accepted-of o vs h = go (eqb (openingRefusal o) 0) refl
+  where
+    go : (b : Bool) → eqb (openingRefusal o) 0 ≡ b → Accepted o
+    go true e = record { accepted = eqb-true _ _ e }
+    go false e =
+        never
+        (sym (ap isRefused (refused-stays o (Progress.Refused (openingRefusal o) 0) vs refl))
+        ∙ rw e at h)
+
+-- an answer that is not refused passed its row's checks, and it is entered
+pub record Taken (o : Opening) (p : Progress) (other : Bool) (v : ℤ) : Type 0 where
+  pub standing : isRefused p ≡ false
+  pub passed : Passed (stoppedAt o p) other (tooLarge v) (sameSideAt p v)
+  pub entered : offerOf o p other v ≡ enteredAt o p v
+
+module _ (o : Opening) (p : Progress) (other : Bool) (v : ℤ) (fine : isRefused p ≡ false) where
+  taken-by : isRefused (answeredAt o p other v) ≡ false → offerOf o p other v ≡ answeredAt o p other v → Taken o p other v
+  taken-by h f = go (eqb (refusal o p other v) 0) refl
+    where
+      go : (b : Bool) → eqb (refusal o p other v) 0 ≡ b → Taken o p other v
+      go true e = record { standing = fine; passed = answer-passed _ _ _ _ (eqb-true _ _ e); entered = f ∙ simp e }
+      go false e = never (simp e at h)
+
+pub taken-is : (o : Opening) (p : Progress) (other : Bool) (v : ℤ) → isRefused (offerOf o p other v) ≡ false → Taken o p other v
+unfolding offerOf
+taken-is o Progress.Begun other v h = taken-by o Progress.Begun other v refl h refl
+taken-is o (Progress.First u) other v h = taken-by o (Progress.First u) other v refl h refl
+taken-is o (Progress.Bracketed k) other v h = taken-by o (Progress.Bracketed k) other v refl h refl
+taken-is o (Progress.Refused n i) other v h = never h
+
 -- ---- the laws
 
 module _ (o : Opening) (accepted : Accepted o) (vs : List ℤ) (k : Bracket) (at : progressOf o vs ≡ Progress.Bracketed k) where
@@ -335,3 +378,31 @@ module _ (o : Opening) (op : Opened o) where
       go : (m : Method) → methodOf o ≡ m → mostOf o ≤ slots
       go Method.M e = omega (arith, most-by-M e)
       go Method.R e = most-by-R e
+
+-- ---- an answer that is accepted
+
+module _ (o : Opening) (vs : List ℤ) (other : Bool) (v : ℤ) (h : isRefused (offerOf o (progressOf o vs) other v) ≡ false) where
+  -- the search comes to where the list with its value comes to
+  pub accepted-more : offerOf o (progressOf o vs) other v ≡ progressOf o (vs ++ (v ∷ []))
+  unfolding takeOf
+  accepted-more =
+      let t = taken-is o (progressOf o vs) other v h in
+      ap (λ (b : Bool). offerOf o (progressOf o vs) b v) (t .passed .called) ∙ sym (progress-more o vs v)
+
+  -- there were fewer values than a held search has slots
+  pub accepted-room : length vs < slots
+  accepted-room = go (progressOf o vs) refl
+    where
+      taken : Taken o (progressOf o vs) other v
+      taken = taken-is o (progressOf o vs) other v h
+
+      count : CountedAt (length vs) (progressOf o vs)
+      count = counted o (accepted-of o vs (taken .standing)) vs
+
+      go : (p : Progress) → progressOf o vs ≡ p → length vs < slots
+      go Progress.Begun e = omega (arith, subst (CountedAt (length vs)) e count)
+      go (Progress.First u) e = omega (arith, subst (CountedAt (length vs)) e count)
+      go (Progress.Bracketed k) e =
+          let a = accepted-of o vs (taken .standing) in
+          omega (arith, before-stop o a vs k e (subst (λ (p : Progress). stoppedAt o p ≡ false) e (taken .passed .going)), most-slots o (opened o a))
+      go (Progress.Refused n i) e = never (sym (ap isRefused e) ∙ taken .standing)

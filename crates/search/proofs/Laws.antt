@@ -25,7 +25,7 @@ use Rattle.rules.specs.Rules.{slots, methodOf, allowed}
 use Rattle.rules.specs.Refusals.{openingRefusal, sameSide}
 use Rattle.rules.specs.RefusalsLaws.{Opened}
 use Rattle.rules.specs.Search.{isRefused, beginOf, takeOf, offerOf, progressOf, tOf, quoteOf}
-use Rattle.rules.specs.SearchLaws.{SoundAt, sound-begin, sound-offer, most-slots}
+use Rattle.rules.specs.SearchLaws.{SoundAt, sound-begin, sound-offer, refused-stays, most-slots}
 
 -- ---- the side of the second value, by the sign of the first
 
@@ -49,15 +49,6 @@ unfolding sameSide
 side-neither v w e f = simp (e, f)
 
 -- ---- the walk over the values
-
--- once refused, refused
-refused-stays : (o : Opening) (p : Progress) (vs : List ℤ) → isRefused p ≡ true → foldl (takeOf o) p vs ≡ p
-unfolding takeOf offerOf
-refused-stays o p [] e = refl
-refused-stays o Progress.Begun (v ∷ vs) e = never (sym e)
-refused-stays o (Progress.First u) (v ∷ vs) e = never (sym e)
-refused-stays o (Progress.Bracketed k) (v ∷ vs) e = never (sym e)
-refused-stays o (Progress.Refused n i) (v ∷ vs) e = refused-stays o (Progress.Refused n i) vs e
 
 -- i values have led to p: where the search stands after all of them is where it comes to from p over those that are left
 pub record Walked (o : Opening) (vs : List ℤ) (i : ℕ) (p : Progress) : Type 0 where
