@@ -1,0 +1,9 @@
+pub mod Text
+pub mod Number
+pub mod Entries
+pub mod Cuts
+pub mod TextLaws
+pub mod NumberLaws
+pub mod FieldLaws
+pub mod EntriesLaws
+pub mod ReadingLaws
