@@ -15,6 +15,7 @@ use Rattle.records.specs.declared.Number.{Number}
 use Rattle.records.specs.Text.{cr, lf, comma, wellEnded}
 use Rattle.records.specs.Number.{minus, allDigits, valueFrom, signed, signedOf, numberOf}
 use Rattle.records.specs.Cuts.{recordLength, commaPlace}
+use Rattle.records.specs.NumberLaws.{both}
 
 -- what a slice has from a place within it on
 at : (s : List ℕ) (i : ℕ) → i < length s → drop i s ≡ getD s i 0 ∷ drop (i + 1) s
@@ -113,9 +114,5 @@ five-digits i v h k = omega (arith, pow-le-pow-right {n = 10} (lit< tt) h)
 
 -- ---- a record that ends with CR LF
 
-first-half : (a b : Bool) → (a && b) ≡ true → a ≡ true
-first-half true b e = refl
-first-half false b e = e
-
 pub ended-long : (r : List ℕ) → wellEnded r ≡ true → 2 ≤ length r
-ended-long r e = leb-true 2 (length r) (first-half _ _ e)
+ended-long r e = leb-true 2 (length r) (both _ _ e .0)

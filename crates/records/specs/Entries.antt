@@ -1,9 +1,9 @@
 -- What the whole text says: the rows "Whole text" and "Each record in turn" of document 01's table "Refused, by place of check",
 -- and the numbers of a text that none of them refuses.
 -- Assumes nothing.
-use Prim.Native.Nat.{ℕ, _+_}
+use Prim.Native.Nat.{ℕ, _+_, _-_}
 use mathlib.Core.Bool.{Bool, true, false, cond, _&&_}
-use mathlib.Core.List.{List, [], _∷_, map}
+use mathlib.Core.List.{List, [], _∷_, _++_, map}
 use lib.ListN.{length, getD, set, replicate}
 use lib.IntN.{ℤ, pos}
 use lib.Dec.{eqb, ltb}
@@ -48,7 +48,7 @@ answerPlace k = k + 2
 
 -- ---- the form of a record
 
--- what each field is read as
+-- what the fields of a record's body are read as
 abbrev pub numbersOf : List ℕ → List Number
 numbersOf body = map numberOf (fieldsOf body)
 
@@ -57,15 +57,16 @@ noneMalformed [] = true
 noneMalformed (Number.Is z ∷ ns) = noneMalformed ns
 noneMalformed (Number.Malformed ∷ ns) = false
 
--- there are k, each well formed
+-- there are k of them, each well formed
 abbrev pub areNumbers : ℕ → List Number → Bool
 areNumbers k ns = eqb (length ns) k && noneMalformed ns
 
+-- of a number that is well formed; of no other is it asked
 abbrev pub integerOf : Number → ℤ
 integerOf (Number.Is z) = z
 integerOf Number.Malformed = pos 0
 
--- the one at place i, from 0
+-- of the one at place i, from 0
 abbrev pub integerAt : List Number → ℕ → ℤ
 integerAt ns i = integerOf (getD ns i Number.Malformed)
 
@@ -94,17 +95,29 @@ openingOf r = cond (wellEnded r) (openingFrom (numbersOf (bodyOf r))) OpeningRec
 
 -- ---- the whole
 
--- no answers: each slot is 0
-abbrev pub blank : Form → Opening → Entries
-blank f o = record { form = f; opening = o; count = 0; points = replicate slots (pos 0); values = replicate slots (pos 0) }
+-- 72 slots: numbers in the first of them, and 0 in the others
+abbrev pub padded : List ℤ → List ℤ
+padded zs = zs ++ replicate (slots - length zs) (pos 0)
+
+-- a text that is read: its opening, and the points and the values of its answers
+abbrev pub filled : Opening → List ℤ → List ℤ → Entries
+filled o points values =
+    record { form = Form.Read; opening = o; count = length points; points = padded points; values = padded values }
 
 -- a refused text has every number 0
 unfoldable pub refused : ℕ → ℕ → Entries
 refused number place =
-    blank (Form.Refused number place) (record { method = pos 0; first = pos 0; second = pos 0; tolerance = pos 0 })
+    record {
+      form = Form.Refused number place;
+      opening = record { method = pos 0; first = pos 0; second = pos 0; tolerance = pos 0 };
+      count = 0;
+      points = padded [];
+      values = padded [];
+    }
 
+-- no answers yet
 unfoldable pub opened : Opening → Entries
-opened o = blank Form.Read o
+opened o = filled o [] []
 
 -- an answer enters the next slot
 unfoldable pub entered : Entries → ℤ → ℤ → Entries

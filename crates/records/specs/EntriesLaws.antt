@@ -1,8 +1,7 @@
 -- Laws of the whole text, as the code takes it: one record, and the rest of the text.
 -- Assumes nothing.
-use Prim.Native.Nat.{ℕ, _+_, _≤_, _<_}
-use mathlib.Core.Path.{_≡_, refl, ap}
-use mathlib.Core.Bool.{Bool, true, false, cond}
+use Prim.Native.Nat.{ℕ, _≤_, _<_}
+use mathlib.Core.Path.{_≡_, refl, ap, _∙_}
 use mathlib.Core.List.{List, [], _∷_}
 use native.Mathlib.Omega.{arith}
 use lib.ListN.{length, take, drop}
@@ -18,10 +17,6 @@ use Rattle.records.specs.Entries.{tooLong, tooMany, malformed, longest, 
 use Rattle.records.specs.Cuts.{recordLength}
 use Rattle.records.specs.TextLaws.{records-step, records-none}
 
--- the first record of s
-abbrev firstRecord : List ℕ → List ℕ
-firstRecord s = take (recordLength s) s
-
 -- ---- the answers
 
 module _ (e : Entries) (s : List ℕ) where
@@ -33,28 +28,43 @@ module _ (e : Entries) (s : List ℕ) where
   unfolding answersFrom
   answers-full h c = rw records-step (simp (eq-eqb (e .count) slots c))
 
-  pub answers-wrong : 0 < length s → (e .count ≡ slots → ⊥) → answerOf (firstRecord s) ≡ AnswerRecord.Malformed
-      → answersFrom e (recordsOf s) ≡ refused malformed (answerPlace (e .count))
-  unfolding answersFrom
-  answers-wrong h c a = rw records-step (simp (ne-eqb (e .count) slots c, a))
+  -- the first record has n bytes and is read as r
+  module _ {n : ℕ} {r : AnswerRecord} (h : 0 < length s) (c : e .count ≡ slots → ⊥) (l : n ≡ recordLength s) (a : r ≡ answerOf (take n s)) where
+    pub answers-wrong : r ≡ AnswerRecord.Malformed → answersFrom e (recordsOf s) ≡ refused malformed (answerPlace (e .count))
+    unfolding answersFrom
+    answers-wrong m =
+        let f : answerOf (take (recordLength s) s) ≡ AnswerRecord.Malformed = cc in
+        rw records-step (simp (ne-eqb (e .count) slots c, f))
 
-  pub answers-entered : (point value : ℤ) → 0 < length s → (e .count ≡ slots → ⊥) → answerOf (firstRecord s) ≡ AnswerRecord.Answer point value
-      → answersFrom e (recordsOf s) ≡ answersFrom (entered e point value) (recordsOf (drop (recordLength s) s))
-  unfolding answersFrom
-  answers-entered point value h c a = rw records-step (simp (ne-eqb (e .count) slots c, a))
+    pub answers-entered : {point value : ℤ} {rest : List ℕ} → r ≡ AnswerRecord.Answer point value → rest ≡ drop n s
+        → answersFrom e (recordsOf s) ≡ answersFrom (entered e point value) (recordsOf rest)
+    unfolding answersFrom
+    answers-entered {point} {value} m d =
+        let f : answerOf (take (recordLength s) s) ≡ AnswerRecord.Answer point value = cc in
+        rw (d, l, records-step s h) (simp (ne-eqb (e .count) slots c, f))
 
 -- ---- the opening
 
-pub opening-wrong : (s : List ℕ) → openingOf (firstRecord s) ≡ OpeningRecord.Malformed → recordsRead (recordsOf s) ≡ refused malformed openingPlace
-unfolding recordsRead recordsOf
-opening-wrong [] a = refl
-opening-wrong (x ∷ s) a = let h : 0 < length (x ∷ s) = omega arith in rw records-step (rw (a, recordsRead))
+-- an empty text too: a record of no bytes is malformed
+first-record : (s : List ℕ) → recordsRead (recordsOf s) ≡ recordsRead (take (recordLength s) s ∷ recordsOf (drop (recordLength s) s))
+unfolding recordsRead recordsOf openingOf recordLength
+first-record [] = refl
+first-record (x ∷ s) = ap recordsRead (records-step (x ∷ s) (omega arith))
 
-pub opening-read : (s : List ℕ) (o : Opening) → openingOf (firstRecord s) ≡ OpeningRecord.Opened o
-    → recordsRead (recordsOf s) ≡ answersFrom (opened o) (recordsOf (drop (recordLength s) s))
-unfolding recordsRead openingOf recordLength
-opening-read [] o a = let z : _≡_ {A = ℕ} 0 1 = cc in absurd (omega arith)
-opening-read (x ∷ s) o a = let h : 0 < length (x ∷ s) = omega arith in rw records-step (rw (a, recordsRead))
+-- the first record has n bytes and is read as r
+module _ (s : List ℕ) {n : ℕ} {r : OpeningRecord} (l : n ≡ recordLength s) (a : r ≡ openingOf (take n s)) where
+  pub opening-wrong : r ≡ OpeningRecord.Malformed → recordsRead (recordsOf s) ≡ refused malformed openingPlace
+  unfolding recordsRead
+  opening-wrong m =
+      let f : openingOf (take (recordLength s) s) ≡ OpeningRecord.Malformed = cc in
+      first-record s ∙ rw (f, recordsRead)
+
+  pub opening-taken : {o : Opening} {rest : List ℕ} → r ≡ OpeningRecord.Opened o → rest ≡ drop n s
+      → recordsRead (recordsOf s) ≡ answersFrom (opened o) (recordsOf rest)
+  unfolding recordsRead
+  opening-taken {o} m d =
+      let f : openingOf (take (recordLength s) s) ≡ OpeningRecord.Opened o = cc in
+      rw (d, l) (first-record s ∙ rw (f, recordsRead))
 
 -- ---- the whole text
 

@@ -1,14 +1,13 @@
 -- Laws of fields: a body made of fields is cut into them; cutting at the first comma again and again, as the code does, gives the
 -- numbers that cutting at every comma gives.
 -- Assumes nothing.
-use Prim.Native.Nat.{ℕ, zero, suc, _+_, _-_, _≤_, _<_, zero-le}
+use Prim.Native.Nat.{ℕ, zero, suc, _≤_, _<_, zero-le}
 use mathlib.Core.Path.{_≡_, refl, sym, ap, _∙_}
-use mathlib.Core.Bool.{Bool, true, false, cond, _&&_, and-false}
+use mathlib.Core.Bool.{Bool, true, false, cond, and-false}
 use mathlib.Core.List.{List, [], _∷_, _++_, map}
 use native.Mathlib.Omega.{arith}
 use lib.ListN.{length, take, drop, drop-of-length-le}
 use lib.Seq.{take-all}
-use lib.IntN.{ℤ}
 use lib.Dec.{eqb, ltb, eqb·suc-suc}
 use borrow.Author.Tests.{eqb-true, eqb-false, ne-eqb, ltb-true, ltb-false}
 use Rattle.records.specs.declared.Number.{Number}
@@ -16,7 +15,7 @@ use Rattle.records.specs.Text.{comma, onto, fieldsOf}
 use Rattle.records.specs.Number.{numberOf}
 use Rattle.records.specs.declared.AnswerRecord.{AnswerRecord}
 use Rattle.records.specs.declared.OpeningRecord.{OpeningRecord}
-use Rattle.records.specs.Entries.{numbersOf, noneMalformed, areNumbers, integerAt, answerFrom, openingWith, openingFrom}
+use Rattle.records.specs.Entries.{numbersOf, areNumbers, integerAt, answerFrom, openingWith, openingFrom}
 use Rattle.records.specs.Cuts.{commaPlace, before, after}
 use Rattle.records.specs.TextLaws.{Lacks}
 use Rattle.records.specs.NumberLaws.{number-spelled}
@@ -80,9 +79,6 @@ parted (x ∷ s) h = cases (eqb x comma) refl h (parted s)
         → take (cond b 0 (suc (commaPlace s))) (x ∷ s) ++ comma ∷ drop (suc (cond b 0 (suc (commaPlace s)))) (x ∷ s) ≡ x ∷ s
     cases true e k f = ap (λ (c : ℕ). c ∷ s) (sym (eqb-true x comma e))
     cases false e k f = ap (λ (l : List ℕ). x ∷ l) (f (omega arith))
-
-whole : (s : List ℕ) → length s ≤ commaPlace s → before s ≡ s
-whole s h = take-all (commaPlace s) s h
 
 fields-some : (s : List ℕ) → commaPlace s < length s → fieldsOf s ≡ before s ∷ fieldsOf (after s)
 fields-some s h = ap fieldsOf (sym (parted s h)) ∙ fields-append (before s) (after s) (before-lacks s)
@@ -173,9 +169,7 @@ fields-cut {X} n s make malformed = cases (cut n s)
         → cond (areNumbers (suc n) (numbersOf s)) (make (numbersOf s)) malformed
         ≡ cond (areNumbers (suc n) (cutNumbers n s)) (make (cutNumbers n s)) malformed
     cases (same e) = ap (λ (ns : List Number). cond (areNumbers (suc n) ns) (make ns) malformed) e
-    cases (neither e f) =
-        ap (λ (b : Bool). cond b (make (numbersOf s)) malformed) e
-        ∙ sym (ap (λ (b : Bool). cond b (make (cutNumbers n s)) malformed) f)
+    cases (neither e f) = simp (e, f)
 
 pub answer-cut : (s : List ℕ) → answerFrom (numbersOf s) ≡ answerFrom (cutNumbers 1 s)
 answer-cut s = fields-cut 1 s (λ ns. AnswerRecord.Answer (integerAt ns 0) (integerAt ns 1)) AnswerRecord.Malformed

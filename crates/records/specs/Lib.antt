@@ -1,6 +1,7 @@
 pub mod Text
 pub mod Number
 pub mod Entries
+pub mod Examples
 pub mod Cuts
 pub mod TextLaws
 pub mod NumberLaws

@@ -1,7 +1,7 @@
 -- Laws of numbers: digits read as their value, and what the bytes of a number can be.
 -- Assumes nothing.
-use Prim.Native.Nat.{ℕ, suc, _+_, _-_, _*_, _≤_, _<_}
-use mathlib.Core.Path.{_≡_, refl, sym, ap, _∙_}
+use Prim.Native.Nat.{ℕ, _+_, _-_, _*_, _≤_}
+use mathlib.Core.Path.{_≡_, refl, ap, _∙_}
 use mathlib.Core.Bool.{Bool, true, false, cond, _&&_}
 use mathlib.Core.List.{List, [], _∷_, _++_}
 use native.Mathlib.Omega.{arith}
@@ -31,7 +31,7 @@ numeral s m n h = simp (le-leb 1 (length s) m, le-leb (length s) 5 n, all-digits
 never : (b : Bool) → b ≡ true → b ≡ false → ⊥
 never b e f = let z : _≡_ {A = ℕ} 0 1 = cc in omega arith
 
-both : (a b : Bool) → (a && b) ≡ true → (a ≡ true) × (b ≡ true)
+pub both : (a b : Bool) → (a && b) ≡ true → (a ≡ true) × (b ≡ true)
 both true b e = (refl, e)
 both false b e = absurd (never false e refl)
 

@@ -3,10 +3,10 @@
 -- Assumes nothing.
 use Prim.Native.Nat.{ℕ, suc, _+_, _-_, _*_, _≤_, _<_}
 use mathlib.Core.Path.{_≡_, refl, sym, ap, _∙_}
-use mathlib.Core.Bool.{Bool, true, false, cond}
-use mathlib.Core.List.{List, [], _∷_, _++_, map, append-assoc, append-nil}
+use mathlib.Core.Bool.{false}
+use mathlib.Core.List.{List, [], _∷_, _++_, map, append-nil}
 use native.Mathlib.Omega.{arith}
-use lib.ListN.{length, set, replicate, length-append}
+use lib.ListN.{length, set, length-append}
 use lib.Seq.{set-append-seam, append-snoc}
 use lib.IntN.{ℤ, pos}
 use lib.Dec.{eqb}
@@ -16,12 +16,10 @@ use Rattle.rules.specs.Rules.{slots}
 use Rattle.records.specs.declared.Number.{Number}
 use Rattle.records.specs.declared.AnswerRecord.{AnswerRecord}
 use Rattle.records.specs.declared.OpeningRecord.{OpeningRecord}
-use Rattle.records.specs.declared.Form.{Form}
-use Rattle.records.specs.declared.Entries.{Entries}
-use Rattle.records.specs.Text.{cr, comma, recordsOf, wellEnded, bodyOf}
+use Rattle.records.specs.Text.{cr, comma}
 use Rattle.records.specs.Number.{minus, isDigit, numberOf}
-use Rattle.records.specs.Entries.{longest, numbersOf, answerFrom, answerOf, openingFrom, openingOf, opened, entered, answersFrom, recordsRead, entriesOf}
-use Rattle.records.specs.TextLaws.{Lacks, NoEnd, AllNoEnd, ended, textOf, no-cr-no-end, records-text, length-ended, ended-well, ended-body}
+use Rattle.records.specs.Entries.{longest, numbersOf, answerOf, openingOf, padded, filled, opened, entered, answersFrom, recordsRead, entriesOf}
+use Rattle.records.specs.TextLaws.{Lacks, AllNoEnd, ended, textOf, no-cr-no-end, records-text, length-ended, ended-well, ended-body}
 use Rattle.records.specs.NumberLaws.{number-spelled}
 use Rattle.records.specs.FieldLaws.{AllLack, joined, fields-joined}
 use Rattle.records.specs.EntriesLaws.{entries-short}
@@ -92,14 +90,7 @@ answers-short no-answer = omega arith
 answers-short (one-answer {row} {rows} h k) =
     omega (arith, row-short h, answers-short k, length-ended (joined row), length-append (ended (joined row)) (textOf (map joined rows)))
 
--- ---- the numbers so far, and 0 in the other slots
-
-abbrev pub padded : List ℤ → List ℤ
-padded zs = zs ++ replicate (slots - length zs) (pos 0)
-
-abbrev pub filled : Opening → List ℤ → List ℤ → Entries
-filled o points values =
-    record { form = Form.Read; opening = o; count = length points; points = padded points; values = padded values }
+-- ---- an answer enters the first slot that is not filled
 
 set-padded : (zs : List ℤ) (z : ℤ) → length zs < slots → set (padded zs) (length zs) z ≡ padded (zs ++ z ∷ [])
 set-padded zs z h =

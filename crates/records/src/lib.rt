@@ -8,23 +8,28 @@ ghost use Rattle.records.specs.Entries.{numbersOf, answerFrom, answerOf,
 ghost use Rattle.records.specs.Cuts.{recordLength, commaPlace, before, after};
 use rules::Opening;
 
+// ---- the limits, the refusals and the bytes that document 01 names
+
 const LONGEST: usize = 4096;
 
-const SLOTS: u32 = 72;
+const SLOTS: usize = 72;
 
+// longer than 4,096 bytes
 const TOO_LONG: u32 = 10;
 
+// it is a 73rd answer record
 const TOO_MANY: u32 = 11;
 
+// its form is wrong, or the first is absent
 const MALFORMED: u32 = 12;
 
-const CR: u8 = 13;
+const CR: u8 = b'\r';
 
-const LF: u8 = 10;
+const LF: u8 = b'\n';
 
-const COMMA: u8 = 44;
+const COMMA: u8 = b',';
 
-const MINUS: u8 = 45;
+const MINUS: u8 = b'-';
 
 // ---- numbers
 
@@ -34,6 +39,7 @@ pub enum Number {
     Malformed,
 }
 
+// n, or its negation.
 fn with_sign(negative: bool, n: u32) -> i32
     requires { ⌜ n ≤ 99999 ⌝ }
     ensures { λ r. ⌜ r ≡ signed negative n ⌝ }
@@ -55,13 +61,13 @@ fn read_digits(negative: bool, s: &[u8]) -> Number
     let mut i = 0;
     while i < s.len() {
         let b = s[i];
-        if b < 48 {
+        if b < b'0' {
             return Number::Malformed;
         }
-        if 57 < b {
+        if b'9' < b {
             return Number::Malformed;
         }
-        v = v * 10 + (b - 48) as u32;
+        v = v * 10 + (b - b'0') as u32;
         i += 1;
     }
     Number::Is(with_sign(negative, v))
@@ -127,6 +133,7 @@ pub enum OpeningRecord {
     Malformed,
 }
 
+// The answer of two numbers.
 fn make_answer(point: Number, value: Number) -> AnswerRecord
     ensures { λ r. ⌜ r ≡ answerFrom (point ∷ value ∷ []) ⌝ }
 {
@@ -139,6 +146,7 @@ fn make_answer(point: Number, value: Number) -> AnswerRecord
     AnswerRecord::Answer { point, value }
 }
 
+// The opening of four numbers.
 fn make_opening(method: Number, first: Number, second: Number, tolerance: Number) -> OpeningRecord
     ensures { λ r. ⌜ r ≡ openingFrom (method ∷ first ∷ second ∷ tolerance ∷ []) ⌝ }
 {
@@ -200,6 +208,7 @@ fn is_well_ended(r: &[u8]) -> bool
     }
 }
 
+// An answer's record.
 fn read_answer(r: &[u8]) -> AnswerRecord
     ensures { λ a. ⌜ a ≡ answerOf (now (r .entry)) ⌝ }
 {
@@ -211,6 +220,7 @@ fn read_answer(r: &[u8]) -> AnswerRecord
     }
 }
 
+// The opening's record.
 fn read_opening(r: &[u8]) -> OpeningRecord
     ensures { λ o. ⌜ o ≡ openingOf (now (r .entry)) ⌝ }
 {
@@ -242,6 +252,7 @@ fn record_length(text: &[u8]) -> usize
 
 // ---- the whole text
 
+// Whether a text was read, or the number and the record of its refusal.
 pub enum Form {
     Read,
     Refused { number: u32, place: u32 },
@@ -252,10 +263,11 @@ pub struct Entries {
     pub form: Form,
     pub opening: Opening,
     pub count: u32,
-    pub points: [i32; 72],
-    pub values: [i32; 72],
+    pub points: [i32; SLOTS],
+    pub values: [i32; SLOTS],
 }
 
+// A refused text.
 fn refuse(number: u32, place: u32) -> Entries
     ensures { λ r. ⌜ r ≡ refused number place ⌝ }
 {
@@ -268,8 +280,8 @@ fn refuse(number: u32, place: u32) -> Entries
             tolerance: 0,
         },
         count: 0,
-        points: [0i32; 72],
-        values: [0i32; 72],
+        points: [0i32; SLOTS],
+        values: [0i32; SLOTS],
     }
 }
 
@@ -277,18 +289,18 @@ fn refuse(number: u32, place: u32) -> Entries
 fn read_answers(text: &[u8], opening: Opening) -> Entries
     ensures { λ r. ⌜ r ≡ answersFrom (opened opening) (recordsOf (now (text .entry))) ⌝ }
 {
-    let mut points = [0i32; 72];
-    let mut values = [0i32; 72];
+    let mut points = [0i32; SLOTS];
+    let mut values = [0i32; SLOTS];
     let mut count: u32 = 0;
     let mut rest = text;
     while 0 < rest.len() {
-        if count == SLOTS {
+        let k = count as usize;
+        if k == SLOTS {
             return refuse(TOO_MANY, count + 2);
         }
         let n = record_length(rest);
         match read_answer(&rest[..n]) {
             AnswerRecord::Answer { point, value } => {
-                let k = count as usize;
                 points[k] = point;
                 values[k] = value;
             }

@@ -1,6 +1,6 @@
 -- `records::before_comma` meets its contract: the part up to the comma's place, which lies within s.
 -- Assumes nothing.
-use mathlib.Core.Path.{_≡_, sym, ap}
+use mathlib.Core.Path.{sym, ap}
 use Prim.Native.Nat.{ℕ}
 use native.Mathlib.Omega.{arith}
 use lib.ListN.{take}

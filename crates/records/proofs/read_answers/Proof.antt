@@ -1,11 +1,11 @@
 -- `records::read_answers` meets its contract. The invariant: the entries of the whole text are those so far, continued over the
 -- records of the rest. A turn takes one record off the rest, which has a byte or more: the measure is the length of the rest.
 -- Assumes nothing.
-use mathlib.Core.Path.{_≡_, refl, sym, ap, _∙_}
+use mathlib.Core.Path.{_≡_, refl, sym, ap₂, _∙_}
 use mathlib.Core.List.{List}
 use Prim.Native.Nat.{ℕ, _≤_}
 use native.Mathlib.Omega.{arith}
-use lib.ListN.{length, take, drop, length-set}
+use lib.ListN.{length, length-set}
 use lib.Seq.{length-take-le}
 use lib.IntN.{ℤ}
 use mir.Syntax.{w32}
@@ -14,10 +14,11 @@ use borrow.Rule.Slice.PartAt.{part-to-end}
 use borrow.Author.Needs.{needs}
 use Rattle.rules.specs.declared.Opening.{Opening}
 use Rattle.rules.specs.Rules.{slots}
+use Rattle.records.specs.declared.AnswerRecord.{AnswerRecord}
 use Rattle.records.specs.declared.Form.{Form}
 use Rattle.records.specs.declared.Entries.{Entries}
 use Rattle.records.specs.Text.{recordsOf}
-use Rattle.records.specs.Entries.{answerOf, opened, entered, answersFrom}
+use Rattle.records.specs.Entries.{opened, entered, answersFrom}
 use Rattle.records.specs.TextLaws.{record-some, record-le}
 use Rattle.records.specs.EntriesLaws.{answers-end, answers-full, answers-wrong, answers-entered}
 use Rattle.records.proofs.read_answers.Statement.{statement}
@@ -38,6 +39,9 @@ abbrev μ-loop : tie.MeasureT-loop
 loop-holds : tie.Need-loop-holds Inv-loop μ-loop
 unfolding opened
 loop-holds c = (omega arith, refl, refl, refl)
+
+cast-k : tie.Need-cast-k Inv-loop μ-loop
+cast-k c = search needs
 
 add-refuse : tie.Need-add-refuse Inv-loop μ-loop
 add-refuse c = search needs
@@ -64,9 +68,6 @@ read-answer-requires c κs = search needs
 
 enum-known-point : tie.Need-enum-known-point Inv-loop μ-loop
 enum-known-point c = search needs
-
-cast-k : tie.Need-cast-k Inv-loop μ-loop
-cast-k c = search needs
 
 mul-points : tie.Need-mul-points Inv-loop μ-loop
 mul-points c = search needs
@@ -97,8 +98,7 @@ returns-2 c =
     let l = t .before in
     c .refuse2 .ensures
     ∙ sym (l .loop .inv .3
-    ∙ answers-wrong _ _ (t .loop-test .taken) (n .before .if1 .left)
-    (ap (λ (k : ℕ). answerOf (take k (l .loop .rest .now))) (sym (n .record-length .ensures)) ∙ sym (r .read-answer .ensures) ∙ c .before .enum-told .given .1))
+    ∙ answers-wrong _ _ (t .loop-test .taken) (n .before .if1 .left) (n .record-length .ensures) (r .read-answer .ensures) (c .before .enum-told .given .1))
 
 add-count : tie.Need-add-count Inv-loop μ-loop
 add-count c = search needs
@@ -126,16 +126,15 @@ loop-again c =
     let t = n .before .before in
     let l = t .before in
     let rest = l .loop .rest .now in
-    let k = n .record-length .result in
-    let ep : toZ w32 (ofZ w32 (g .point .given .0 .0)) ≡ g .point .given .0 .0 = search needs in
-    let ev : toZ w32 (ofZ w32 (g .point .given .0 .1 .0)) ≡ g .point .given .0 .1 .0 = search needs in (
+    let p : toZ w32 (ofZ w32 (g .point .given .0 .0)) ≡ g .point .given .0 .0 = search needs in
+    let v : toZ w32 (ofZ w32 (g .point .given .0 .1 .0)) ≡ g .point .given .0 .1 .0 = search needs in (
       omega arith,
       simp length-set (l .loop .inv .1),
       simp length-set (l .loop .inv .2),
-      rw (ep, ev, part-to-end rest k, n .record-length .ensures)
-          (l .loop .inv .3
-          ∙ answers-entered _ rest _ _ (t .loop-test .taken) (n .before .if1 .left)
-          (ap (λ (j : ℕ). answerOf (take j rest)) (sym (n .record-length .ensures)) ∙ sym (r .read-answer .ensures) ∙ g .point .given .1)),
+      (l .loop .inv .3
+          ∙ answers-entered _ rest (t .loop-test .taken) (n .before .if1 .left) (n .record-length .ensures) (r .read-answer .ensures)
+          (g .point .given .1 ∙ sym (ap₂ AnswerRecord.Answer p v))
+          (part-to-end rest (n .record-length .result))),
     )
 
 returns-3 : tie.Need-returns-3 Inv-loop μ-loop
@@ -148,6 +147,7 @@ read-answers-spec =
     Inv-loop
     μ-loop
     loop-holds
+    cast-k
     add-refuse
     refuse-requires
     returns
@@ -155,7 +155,6 @@ read-answers-spec =
     slice-aggregate-read-answer
     read-answer-requires
     enum-known-point
-    cast-k
     mul-points
     array-set-from-points
     mul-values

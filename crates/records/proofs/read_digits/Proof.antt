@@ -25,13 +25,15 @@ returns c = simp (c .if1 .taken)
 
 returns-2 : tie.Need-returns-2 Inv-loop μ-loop
 unfolding signedOf
-returns-2 c = simp (le-leb 1 (length (c .before .before .before .args .s .now)) (omega arith), lt-leb _ _ (c .if2 .taken))
+returns-2 c =
+    let n = length (c .before .before .before .args .s .now) in
+    simp (le-leb 1 n (omega arith), lt-leb n 5 (omega arith))
 
 loop-holds : tie.Need-loop-holds Inv-loop μ-loop
 unfolding signedOf
 loop-holds c =
-    let s = c .before .before .before .args .s .now in
-    (omega arith, omega arith, omega arith, simp (le-leb 1 (length s) (omega (arith, c .before .if1 .left)), le-leb (length s) 5 (c .if2 .left)))
+    let n = length (c .before .before .before .args .s .now) in
+    (omega arith, omega arith, omega arith, simp (le-leb 1 n (omega (arith, c .before .if1 .left)), le-leb n 5 (c .if2 .left)))
 
 shared-slice-read-b : tie.Need-shared-slice-read-b Inv-loop μ-loop
 shared-slice-read-b c = omega arith

@@ -1,17 +1,12 @@
 -- `records::read_records` meets its contract: the length is tried first, then the opening's record, and then the answers in the rest
 -- of the text. An empty text has no opening's record: that of no bytes is malformed.
 -- Assumes nothing.
-use mathlib.Core.Path.{sym, ap, _∙_}
-use mathlib.Core.List.{List}
-use Prim.Native.Nat.{ℕ}
+use mathlib.Core.Path.{sym, _∙_}
 use native.Mathlib.Omega.{arith}
-use lib.ListN.{take, drop}
 use lib.Seq.{length-take-le}
 use borrow.Rule.Slice.PartAt.{part-to-end}
-use Rattle.records.specs.Text.{recordsOf}
-use Rattle.records.specs.Entries.{openingOf, opened, answersFrom}
 use Rattle.records.specs.TextLaws.{record-le}
-use Rattle.records.specs.EntriesLaws.{entries-long, entries-short, opening-wrong, opening-read}
+use Rattle.records.specs.EntriesLaws.{entries-long, entries-short, opening-wrong, opening-taken}
 use borrow.Author.Needs.{needs}
 use Rattle.records.proofs.read_records.Statement.{statement}
 use Rattle.records.proofs.read_records.Tie as tie
@@ -60,12 +55,9 @@ returns-2 c =
     let r = g .before .before in
     let n = r .before .before in
     let s = n .before .before .before .args .text .now in
-    let e = n .record-length .ensures in
-    let o = g .opening .given .0 .0 in
     c .read-answers .ensures
-    ∙ ap (λ (l : List ℕ). answersFrom (opened o) (recordsOf l)) (part-to-end s (n .record-length .result) ∙ ap (λ (j : ℕ). drop j s) e)
     ∙ sym (entries-short s (n .before .if1 .left)
-    ∙ opening-read s o (ap (λ (j : ℕ). openingOf (take j s)) (sym e) ∙ sym (r .read-opening .ensures) ∙ g .opening .given .1))
+    ∙ opening-taken s (n .record-length .ensures) (r .read-opening .ensures) (g .opening .given .1) (part-to-end s (n .record-length .result)))
 
 returns-3 : tie.Need-returns-3
 returns-3 c =
@@ -74,7 +66,7 @@ returns-3 c =
     let s = n .before .before .before .args .text .now in
     c .refuse2 .ensures
     ∙ sym (entries-short s (n .before .if1 .left)
-    ∙ opening-wrong s (ap (λ (j : ℕ). openingOf (take j s)) (sym (n .record-length .ensures)) ∙ sym (r .read-opening .ensures) ∙ c .before .enum-told .given .1))
+    ∙ opening-wrong s (n .record-length .ensures) (r .read-opening .ensures) (c .before .enum-told .given .1))
 
 pub read-records-spec : {M : Type 1} → statement M
 read-records-spec =
