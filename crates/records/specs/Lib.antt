@@ -1,3 +1,4 @@
+-- The definitions are Text, Number and Entries, and Examples works them by hand. Cuts and the laws serve the proofs.
 pub mod Text
 pub mod Number
 pub mod Entries

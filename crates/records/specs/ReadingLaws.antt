@@ -44,7 +44,8 @@ pub row-numbers : {f : List ℕ} {fs : List (List ℕ)} {zs : List ℤ} → Spel
 row-numbers {f} {fs} h =
     ap (map numberOf) (fields-joined f fs (fields-lack comma refl refl h)) ∙ numbers-read h
 
-pub answer-read : {fs : List (List ℕ)} {point value : ℤ} → Spells fs (point ∷ value ∷ []) → answerOf (ended (joined fs)) ≡ AnswerRecord.Answer point value
+pub answer-read : {fs : List (List ℕ)} {point value : ℤ} → Spells fs (point ∷ value ∷ [])
+    → answerOf (ended (joined fs)) ≡ AnswerRecord.Answer point value
 unfolding answerOf
 answer-read (more {f} {fs} e h) =
     simp (ended-well (joined (f ∷ fs)), ended-body (joined (f ∷ fs)), row-numbers (more e h))

@@ -14,9 +14,11 @@ use borrow.Author.Needs.{needs}
 use Rattle.records.proofs.read_four.Statement.{statement}
 use Rattle.records.proofs.read_four.Tie as tie
 
+-- over plain values, where `cc` finds it
 four-found : (s s₁ s₂ s₃ p₀ p₁ p₂ : List ℕ) (m a b t : Number) (r : OpeningRecord)
     → s₁ ≡ after s → s₂ ≡ after s₁ → s₃ ≡ after s₂ → p₀ ≡ before s → p₁ ≡ before s₁ → p₂ ≡ before s₂
-    → m ≡ numberOf p₀ → a ≡ numberOf p₁ → b ≡ numberOf p₂ → t ≡ numberOf s₃ → r ≡ openingFrom (m ∷ a ∷ b ∷ t ∷ []) → r ≡ openingFrom (numbersOf s)
+    → m ≡ numberOf p₀ → a ≡ numberOf p₁ → b ≡ numberOf p₂ → t ≡ numberOf s₃
+    → r ≡ openingFrom (m ∷ a ∷ b ∷ t ∷ []) → r ≡ openingFrom (numbersOf s)
 four-found s s₁ s₂ s₃ p₀ p₁ p₂ m a b t r e₁ e₂ e₃ q₀ q₁ q₂ h₀ h₁ h₂ h₃ h = cc (opening-cut s)
 
 after-comma-requires : tie.Need-after-comma-requires
