@@ -38,7 +38,7 @@ fn end_beyond(first: i32, second: i32) -> bool
 }
 
 // The first refusal of an opening, or 0.
-fn opening_refusal(o: Opening) -> u32
+pub fn opening_refusal(o: Opening) -> u32
     ensures { λ r. ⌜ r ≡ openingRefusal o ⌝ }
 {
     if beyond(0, 2, o.method) {

@@ -1,0 +1,1 @@
+// The trial book and the claim about whole runs. There is no function here: see specs/.
