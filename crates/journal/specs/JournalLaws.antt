@@ -1,0 +1,259 @@
+-- The book and the search over a list come to the same: what is known of a book that answers have made, where the list of its values
+-- leads, and what its brackets are.
+-- Assumes nothing.
+use Prim.Native.Nat.{ℕ, suc, _+_, _≤_, _<_}
+use mathlib.Core.Path.{_≡_, refl, sym, ap, ap₂, subst, subst₂, _∙_}
+use mathlib.Core.Bool.{Bool, true, false, cond, not, _&&_}
+use mathlib.Core.List.{List, [], _∷_, _++_, map, foldl}
+use native.Mathlib.Omega.{arith}
+use borrow.Author.Tests.{eqb-true, eq-eqb, ltb-false, le-ltb}
+use lib.Dec.{eqb, ltb}
+use lib.IntN.{ℤ, pos, natAbs}
+use lib.ListN.{length, length-map}
+use Rattle.integers.specs.Signs.{eqZ, eqZ-true, never}
+use Rattle.rules.specs.declared.Opening.{Opening}
+use Rattle.rules.specs.declared.Sample.{Sample}
+use Rattle.rules.specs.declared.Bracket.{Bracket}
+use Rattle.rules.specs.declared.Progress.{Progress}
+use Rattle.rules.specs.declared.Report.{Report}
+use Rattle.rules.specs.Rules.{largestValue, firstOf, secondOf, startOf, stoppedOf, nextOf, advanceOf}
+use Rattle.rules.specs.Refusals.{openingRefusal, answerRefusal, tooLarge, sameSide, Accepted}
+use Rattle.rules.specs.RefusalsLaws.{Opened, opened, or-false, opposed-crossing}
+use Rattle.rules.specs.RulesLaws.{Inside}
+use Rattle.rules.specs.Search.{isRefused, beginOf, stoppedAt, sameSideAt, takenOf, otherAt, enteredAt, answeredAt, offerOf, takeOf, progressOf, bracketReport, reportAt, reportOf, mostOf}
+use Rattle.rules.specs.SearchLaws.{Sound, sound-start, sound-advance, advanced, counts, at-most, before-stop}
+use Rattle.journal.specs.Answers.{Answer}
+use Rattle.journal.specs.Journal.{sampleOf, advancedBy, bracketOf, stopOf, pointOf, reportWith, journalReport, oneSide, refusalOf, takes, bookWith, toldOf, bracketsFrom, bracketsOf}
+
+abbrev pub valueOf : Answer → ℤ
+valueOf a = a .value
+
+abbrev pub pointAt : Answer → ℤ
+pointAt a = a .point
+
+-- ---- where a search of the book's values stands
+
+abbrev pub stageOf : List Answer → Progress
+stageOf [] = Progress.Begun
+stageOf (a ∷ []) = Progress.First (a .value)
+stageOf (a ∷ b ∷ rest) = Progress.Bracketed (bracketOf a b rest)
+
+-- the two have one stop, and one point called for while there is no stop
+stop-stage : (o : Opening) (book : List Answer) → stopOf o book ≡ stoppedAt o (stageOf book)
+unfolding stopOf
+stop-stage o [] = refl
+stop-stage o (a ∷ []) = refl
+stop-stage o (a ∷ b ∷ rest) = refl
+
+side-stage : (book : List Answer) (v : ℤ) → oneSide book v ≡ sameSideAt (stageOf book) v
+unfolding sameSide
+side-stage [] v = refl
+side-stage (a ∷ []) v = refl
+side-stage (a ∷ b ∷ rest) v = refl
+
+other-stage : (o : Opening) (book : List Answer) (x : ℤ) → stopOf o book ≡ false → not (eqZ x (pos (pointOf o book))) ≡ otherAt o (stageOf book) x
+unfolding stopOf pointOf
+other-stage o [] x e = refl
+other-stage o (a ∷ []) x e = refl
+other-stage o (a ∷ b ∷ rest) x e = simp e
+
+-- so they refuse alike
+refusal-stage : (o : Opening) (book : List Answer) (a : Answer)
+    → refusalOf o book a ≡ answerRefusal (stoppedAt o (stageOf book)) (otherAt o (stageOf book) (a .point)) (tooLarge (a .value)) (sameSideAt (stageOf book) (a .value))
+unfolding refusalOf answerRefusal
+refusal-stage o book a = go (stopOf o book) refl
+  where
+    go : (b : Bool) → stopOf o book ≡ b
+        → _≡_ {A = ℕ} (cond b 5 (cond (not (eqZ (a .point) (pos (pointOf o book)))) 6 (cond (tooLarge (a .value)) 7 (cond (oneSide book (a .value)) 8 0))))
+        (cond (stoppedAt o (stageOf book)) 5 (cond (otherAt o (stageOf book) (a .point)) 6 (cond (tooLarge (a .value)) 7 (cond (sameSideAt (stageOf book) (a .value)) 8 0))))
+    go true e = rw (sym (stop-stage o book) ∙ e)
+    go false e = rw (sym (stop-stage o book) ∙ e, other-stage o book (a .point) e, side-stage book (a .value))
+
+-- ---- what is known of a book that answers have made
+
+-- each answer after the second came while the search went on, with the next point and a value in range
+pub record Next (o : Opening) (k : Bracket) (a : Answer) : Type 0 where
+  pub going : stoppedOf o k ≡ false
+  pub called : a .point ≡ pos (nextOf o k)
+  pub ranged : natAbs (a .value) ≤ largestValue
+
+abbrev pub Onward : Opening → Bracket → List Answer → Type 0
+Onward o k [] = Unit {0}
+Onward o k (a ∷ rest) = Next o k a × Onward o (advanceOf k (sampleOf a)) rest
+
+-- the first two: at x0 and x1, with values in range
+pub record At (x : ℕ) (a : Answer) : Type 0 where
+  pub called : a .point ≡ pos x
+  pub ranged : natAbs (a .value) ≤ largestValue
+
+abbrev pub Kept : Opening → List Answer → Type 0
+Kept o [] = Unit {0}
+Kept o (a ∷ []) = At (firstOf o) a
+Kept o (a ∷ b ∷ rest) =
+    At (firstOf o) a × At (secondOf o) b × (sameSide (a .value) (b .value) ≡ false) × Onward o (startOf (sampleOf a) (sampleOf b)) rest
+
+-- what an answer that no refusal meets is
+pub record Fine (o : Opening) (book : List Answer) (a : Answer) : Type 0 where
+  pub going : stopOf o book ≡ false
+  pub called : a .point ≡ pos (pointOf o book)
+  pub ranged : natAbs (a .value) ≤ largestValue
+  pub crossing : oneSide book (a .value) ≡ false
+
+pub fine : (o : Opening) (book : List Answer) (a : Answer) → takes o book a ≡ true → Fine o book a
+unfolding refusalOf
+fine o book a t =
+    go (stopOf o book) refl (eqZ (a .point) (pos (pointOf o book))) refl (ltb largestValue (natAbs (a .value))) refl (oneSide book (a .value)) refl (eqb-true (refusalOf o book a) 0 t)
+  where
+    go : (s : Bool) → stopOf o book ≡ s → (p : Bool) → eqZ (a .point) (pos (pointOf o book)) ≡ p → (l : Bool) → ltb largestValue (natAbs (a .value)) ≡ l
+        → (d : Bool) → oneSide book (a .value) ≡ d → _≡_ {A = ℕ} (cond s 5 (cond (not p) 6 (cond l 7 (cond d 8 0)))) 0 → Fine o book a
+    go true e p f l g d h i = absurd (omega arith)
+    go false e false f l g d h i = absurd (omega arith)
+    go false e true f true g d h i = absurd (omega arith)
+    go false e true f false g true h i = absurd (omega arith)
+    go false e true f false g false h i =
+        record { going = e; called = eqZ-true _ _ f; ranged = ltb-false largestValue (natAbs (a .value)) g; crossing = h }
+
+onward-more : (o : Opening) (k : Bracket) (rest : List Answer) (a : Answer) → Onward o k rest → Next o (advancedBy k rest) a → Onward o k (rest ++ (a ∷ []))
+onward-more o k [] a w n = (n, tt)
+onward-more o k (x ∷ rest) a w n = (w .0, onward-more o (advanceOf k (sampleOf x)) rest a (w .1) n)
+
+pub kept-more : (o : Opening) (book : List Answer) (a : Answer) → Kept o book → Fine o book a → Kept o (book ++ (a ∷ []))
+unfolding stopOf pointOf sameSide
+kept-more o [] a k f = record { called = f .called; ranged = f .ranged }
+kept-more o (x ∷ []) a k f = (k, record { called = f .called; ranged = f .ranged }, f .crossing, tt)
+kept-more o (x ∷ y ∷ rest) a k f =
+    (k .0, k .1, k .2, onward-more o (startOf (sampleOf x) (sampleOf y)) rest a (k .3) (record { going = f .going; called = f .called; ranged = f .ranged }))
+
+-- ---- the list of the book's values leads to the book's stage
+
+-- an answer that was called for is the sample that the search enters
+sample-is : (a : Answer) (x : ℕ) → a .point ≡ pos x → sampleOf a ≡ record { point = x; value = a .value }
+sample-is a x e = ap (λ (z : ℤ). record { point = natAbs z; value = a .value }) e
+
+-- a value in range is taken while no refusal applies
+take-passes : (o : Opening) (p : Progress) (v : ℤ) → isRefused p ≡ false → stoppedAt o p ≡ false → natAbs v ≤ largestValue → sameSideAt p v ≡ false → takeOf o p v ≡ enteredAt o p v
+unfolding takeOf offerOf answerRefusal
+take-passes o Progress.Begun v r s h d = simp (le-ltb largestValue (natAbs v) h)
+take-passes o (Progress.First u) v r s h d = simp (le-ltb largestValue (natAbs v) h, d)
+take-passes o (Progress.Bracketed k) v r s h d = simp (s, le-ltb largestValue (natAbs v) h)
+take-passes o (Progress.Refused n i) v r s h d = never r
+
+onward-folds : (o : Opening) (k : Bracket) (rest : List Answer) → Onward o k rest
+    → foldl (takeOf o) (Progress.Bracketed k) (map valueOf rest) ≡ Progress.Bracketed (advancedBy k rest)
+onward-folds o k [] w = refl
+onward-folds o k (a ∷ rest) w =
+    ap (λ (p : Progress). foldl (takeOf o) p (map valueOf rest))
+    (take-passes o (Progress.Bracketed k) (a .value) refl (w .0 .going) (w .0 .ranged) refl
+    ∙ ap (λ (x : Sample). Progress.Bracketed (advanceOf k x)) (sym (sample-is a (nextOf o k) (w .0 .called))))
+    ∙ onward-folds o (advanceOf k (sampleOf a)) rest (w .1)
+
+pub kept-progress : (o : Opening) (book : List Answer) → Accepted o → Kept o book → progressOf o (map valueOf book) ≡ stageOf book
+unfolding progressOf beginOf
+kept-progress o [] a k = simp (eq-eqb (openingRefusal o) 0 (a .accepted))
+kept-progress o (x ∷ []) a k =
+    simp (eq-eqb (openingRefusal o) 0 (a .accepted)) (take-passes o Progress.Begun (x .value) refl refl (k .ranged) refl)
+kept-progress o (x ∷ y ∷ rest) a k =
+    simp (eq-eqb (openingRefusal o) 0 (a .accepted))
+    (ap (λ (p : Progress). foldl (takeOf o) (takeOf o p (y .value)) (map valueOf rest)) (take-passes o Progress.Begun (x .value) refl refl (k .0 .ranged) refl)
+    ∙ ap (λ (p : Progress). foldl (takeOf o) p (map valueOf rest))
+    (take-passes o (Progress.First (x .value)) (y .value) refl refl (k .1 .ranged) (k .2)
+    ∙ ap₂ (λ (s t : Sample). Progress.Bracketed (startOf s t)) (sym (sample-is x (firstOf o) (k .0 .called))) (sym (sample-is y (secondOf o) (k .1 .called))))
+    ∙ onward-folds o (startOf (sampleOf x) (sampleOf y)) rest (k .3))
+
+-- ---- the book's report is that of its stage
+
+report-with : (o : Opening) (k : Bracket) (n : ℕ) → k .taken ≡ n → reportWith o k n ≡ bracketReport o k
+unfolding bracketReport
+report-with o k n e = rw (← e)
+
+module _ (o : Opening) (accepted : Accepted o) (book : List Answer) (kept : Kept o book) where
+  leads : progressOf o (map valueOf book) ≡ stageOf book
+  leads = kept-progress o book accepted kept
+
+  pub report-stage : journalReport o book ≡ reportAt o (stageOf book)
+  unfolding journalReport reportAt pointOf
+  report-stage = go book refl leads
+    where
+      go : (b : List Answer) → book ≡ b → progressOf o (map valueOf book) ≡ stageOf b → journalReport o b ≡ reportAt o (stageOf b)
+      go [] e f = refl
+      go (x ∷ []) e f = refl
+      go (x ∷ y ∷ rest) e f =
+          report-with o (bracketOf x y rest) (length (x ∷ y ∷ rest))
+          (counts o accepted (map valueOf book) (bracketOf x y rest) f ∙ length-map book valueOf ∙ ap length e)
+
+  -- over the list of its values the search gives the book's report
+  pub report-list : reportOf o (map valueOf book) ≡ journalReport o book
+  unfolding reportOf
+  report-list = ap (reportAt o) leads ∙ sym report-stage
+
+  -- ---- the bound
+
+  -- as many values as answers
+  as-many : length (map valueOf book) ≡ length book
+  as-many = length-map book valueOf
+
+  pub at-most-answers : length book ≤ mostOf o
+  at-most-answers = go book refl leads
+    where
+      go : (b : List Answer) → book ≡ b → progressOf o (map valueOf book) ≡ stageOf b → length book ≤ mostOf o
+      go [] e f = omega (arith, ap length e)
+      go (x ∷ []) e f = omega (arith, ap length e)
+      go (x ∷ y ∷ rest) e f = omega (arith, as-many, at-most o accepted (map valueOf book) (bracketOf x y rest) f)
+
+  pub fewer-answers : stopOf o book ≡ false → length book < mostOf o
+  unfolding stopOf
+  fewer-answers = go book refl leads
+    where
+      go : (b : List Answer) → book ≡ b → progressOf o (map valueOf book) ≡ stageOf b → stopOf o b ≡ false → length book < mostOf o
+      go [] e f s = omega (arith, ap length e)
+      go (x ∷ []) e f s = omega (arith, ap length e)
+      go (x ∷ y ∷ rest) e f s = omega (arith, as-many, before-stop o accepted (map valueOf book) (bracketOf x y rest) f s)
+
+-- ---- the brackets: each lies within the one before, and its values are never both above or both below target
+
+abbrev pub Nested : List Bracket → Type 0
+Nested [] = Unit {0}
+Nested (k ∷ []) = Unit {0}
+Nested (k ∷ k' ∷ ks) = Inside k k' × Nested (k' ∷ ks)
+
+abbrev pub Opposed : List Bracket → Type 0
+Opposed [] = Unit {0}
+Opposed (k ∷ ks) = (sameSide (k .better .value) (k .other .value) ≡ false) × Opposed ks
+
+module _ (o : Opening) (op : Opened o) where
+  -- the bracket after an answer
+  step-sound : (k : Bracket) (a : Answer) → Sound o k → Next o k a → Sound o (advanceOf k (sampleOf a))
+  step-sound k a s n =
+      subst (λ (x : Sample). Sound o (advanceOf k x)) (sym (sample-is a (nextOf o k) (n .called))) (sound-advance o k (a .value) op s (n .going) (n .ranged))
+
+  step-inside : (k : Bracket) (a : Answer) → Sound o k → Next o k a → Inside k (advanceOf k (sampleOf a))
+  step-inside k a s n =
+      subst (λ (x : Sample). Inside k (advanceOf k x)) (sym (sample-is a (nextOf o k) (n .called))) (advanced o k (a .value) op s (n .going) .inside)
+
+  onward-nested : (k : Bracket) (rest : List Answer) → Sound o k → Onward o k rest → Nested (bracketsFrom k rest)
+  onward-nested k [] s w = tt
+  onward-nested k (a ∷ []) s w = (step-inside k a s (w .0), tt)
+  onward-nested k (a ∷ b ∷ rest) s w =
+      (step-inside k a s (w .0), onward-nested (advanceOf k (sampleOf a)) (b ∷ rest) (step-sound k a s (w .0)) (w .1))
+
+  onward-opposed : (k : Bracket) (rest : List Answer) → Sound o k → Onward o k rest → Opposed (bracketsFrom k rest)
+  onward-opposed k [] s w = (opposed-crossing _ _ (s .held .opposite), tt)
+  onward-opposed k (a ∷ rest) s w =
+      (opposed-crossing _ _ (s .held .opposite), onward-opposed (advanceOf k (sampleOf a)) rest (step-sound k a s (w .0)) (w .1))
+
+  start-sound : (a b : Answer) → At (firstOf o) a → At (secondOf o) b → sameSide (a .value) (b .value) ≡ false → Sound o (startOf (sampleOf a) (sampleOf b))
+  start-sound a b p q d =
+      subst₂ (λ (s t : Sample). Sound o (startOf s t)) (sym (sample-is a (firstOf o) (p .called))) (sym (sample-is b (secondOf o) (q .called)))
+      (sound-start o (a .value) (b .value) op (p .ranged) (q .ranged) d)
+
+  pub kept-nested : (book : List Answer) → Kept o book → Nested (bracketsOf book)
+  unfolding bracketsOf
+  kept-nested [] k = tt
+  kept-nested (a ∷ []) k = tt
+  kept-nested (a ∷ b ∷ rest) k = onward-nested (startOf (sampleOf a) (sampleOf b)) rest (start-sound a b (k .0) (k .1) (k .2)) (k .3)
+
+  pub kept-opposed : (book : List Answer) → Kept o book → Opposed (bracketsOf book)
+  unfolding bracketsOf
+  kept-opposed [] k = tt
+  kept-opposed (a ∷ []) k = tt
+  kept-opposed (a ∷ b ∷ rest) k = onward-opposed (startOf (sampleOf a) (sampleOf b)) rest (start-sound a b (k .0) (k .1) (k .2)) (k .3)
