@@ -58,7 +58,7 @@ other-stage o (a ∷ []) x e = refl
 other-stage o (a ∷ b ∷ rest) x e = simp e
 
 -- so they refuse alike
-refusal-stage : (o : Opening) (book : List Answer) (a : Answer)
+pub refusal-stage : (o : Opening) (book : List Answer) (a : Answer)
     → refusalOf o book a ≡ answerRefusal (stoppedAt o (stageOf book)) (otherAt o (stageOf book) (a .point)) (tooLarge (a .value)) (sameSideAt (stageOf book) (a .value))
 unfolding refusalOf answerRefusal
 refusal-stage o book a = go (stopOf o book) refl
@@ -127,7 +127,7 @@ kept-more o (x ∷ y ∷ rest) a k f =
 -- ---- the list of the book's values leads to the book's stage
 
 -- an answer that was called for is the sample that the search enters
-sample-is : (a : Answer) (x : ℕ) → a .point ≡ pos x → sampleOf a ≡ record { point = x; value = a .value }
+pub sample-is : (a : Answer) (x : ℕ) → a .point ≡ pos x → sampleOf a ≡ record { point = x; value = a .value }
 sample-is a x e = ap (λ (z : ℤ). record { point = natAbs z; value = a .value }) e
 
 -- a value in range is taken while no refusal applies
@@ -138,26 +138,37 @@ take-passes o (Progress.First u) v r s h d = simp (le-ltb largestValue (natAbs v
 take-passes o (Progress.Bracketed k) v r s h d = simp (s, le-ltb largestValue (natAbs v) h)
 take-passes o (Progress.Refused n i) v r s h d = never r
 
+-- the first, the second and each later answer
+pub first-taken : (o : Opening) (a : Answer) → At (firstOf o) a → takeOf o Progress.Begun (a .value) ≡ Progress.First (a .value)
+first-taken o a p = take-passes o Progress.Begun (a .value) refl refl (p .ranged) refl
+
+pub second-taken : (o : Opening) (a b : Answer) → At (firstOf o) a → At (secondOf o) b → sameSide (a .value) (b .value) ≡ false
+    → takeOf o (Progress.First (a .value)) (b .value) ≡ Progress.Bracketed (startOf (sampleOf a) (sampleOf b))
+second-taken o a b p q d =
+    take-passes o (Progress.First (a .value)) (b .value) refl refl (q .ranged) d
+    ∙ ap₂ (λ (s t : Sample). Progress.Bracketed (startOf s t)) (sym (sample-is a (firstOf o) (p .called))) (sym (sample-is b (secondOf o) (q .called)))
+
+pub next-taken : (o : Opening) (k : Bracket) (a : Answer) → Next o k a
+    → takeOf o (Progress.Bracketed k) (a .value) ≡ Progress.Bracketed (advanceOf k (sampleOf a))
+next-taken o k a n =
+    take-passes o (Progress.Bracketed k) (a .value) refl (n .going) (n .ranged) refl
+    ∙ ap (λ (x : Sample). Progress.Bracketed (advanceOf k x)) (sym (sample-is a (nextOf o k) (n .called)))
+
 onward-folds : (o : Opening) (k : Bracket) (rest : List Answer) → Onward o k rest
     → foldl (takeOf o) (Progress.Bracketed k) (map valueOf rest) ≡ Progress.Bracketed (advancedBy k rest)
 onward-folds o k [] w = refl
 onward-folds o k (a ∷ rest) w =
-    ap (λ (p : Progress). foldl (takeOf o) p (map valueOf rest))
-    (take-passes o (Progress.Bracketed k) (a .value) refl (w .0 .going) (w .0 .ranged) refl
-    ∙ ap (λ (x : Sample). Progress.Bracketed (advanceOf k x)) (sym (sample-is a (nextOf o k) (w .0 .called))))
+    ap (λ (p : Progress). foldl (takeOf o) p (map valueOf rest)) (next-taken o k a (w .0))
     ∙ onward-folds o (advanceOf k (sampleOf a)) rest (w .1)
 
 pub kept-progress : (o : Opening) (book : List Answer) → Accepted o → Kept o book → progressOf o (map valueOf book) ≡ stageOf book
 unfolding progressOf beginOf
 kept-progress o [] a k = simp (eq-eqb (openingRefusal o) 0 (a .accepted))
-kept-progress o (x ∷ []) a k =
-    simp (eq-eqb (openingRefusal o) 0 (a .accepted)) (take-passes o Progress.Begun (x .value) refl refl (k .ranged) refl)
+kept-progress o (x ∷ []) a k = simp (eq-eqb (openingRefusal o) 0 (a .accepted)) (first-taken o x k)
 kept-progress o (x ∷ y ∷ rest) a k =
     simp (eq-eqb (openingRefusal o) 0 (a .accepted))
-    (ap (λ (p : Progress). foldl (takeOf o) (takeOf o p (y .value)) (map valueOf rest)) (take-passes o Progress.Begun (x .value) refl refl (k .0 .ranged) refl)
-    ∙ ap (λ (p : Progress). foldl (takeOf o) p (map valueOf rest))
-    (take-passes o (Progress.First (x .value)) (y .value) refl refl (k .1 .ranged) (k .2)
-    ∙ ap₂ (λ (s t : Sample). Progress.Bracketed (startOf s t)) (sym (sample-is x (firstOf o) (k .0 .called))) (sym (sample-is y (secondOf o) (k .1 .called))))
+    (ap (λ (p : Progress). foldl (takeOf o) (takeOf o p (y .value)) (map valueOf rest)) (first-taken o x (k .0))
+    ∙ ap (λ (p : Progress). foldl (takeOf o) p (map valueOf rest)) (second-taken o x y (k .0) (k .1) (k .2))
     ∙ onward-folds o (startOf (sampleOf x) (sampleOf y)) rest (k .3))
 
 -- ---- the book's report is that of its stage

@@ -1,3 +1,5 @@
 pub mod Answers
 pub mod Journal
 pub mod JournalLaws
+pub mod RunLaws
+pub mod Run

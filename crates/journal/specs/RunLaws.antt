@@ -1,0 +1,221 @@
+-- One call of a search that holds a book's values answers as the book does, and leaves the search of the book's next state; and the
+-- reader gives the book's report on a sheet of it.
+-- Assumes nothing.
+use Prim.Native.Nat.{ℕ, suc, _+_, _-_, _≤_, _<_}
+use mathlib.Core.Path.{_≡_, refl, sym, ap, ap₂, subst, _∙_}
+use mathlib.Core.Bool.{Bool, true, false, cond, not, _&&_}
+use mathlib.Core.List.{List, [], _∷_, _++_, map, foldl, append-assoc}
+use native.Mathlib.Numerals.{add-one}
+use native.Mathlib.Omega.{arith}
+use borrow.Author.Tests.{eqb-false, le-ltb}
+use lib.Dec.{eqb, ltb}
+use lib.IntN.{ℤ, pos, natAbs}
+use lib.ListN.{length, take, set, replicate, length-append, length-replicate, length-map}
+use lib.Seq.{take-at, set-at}
+use Rattle.integers.specs.Signs.{eqZ, eq-eqZ, never}
+use Rattle.rules.specs.declared.Opening.{Opening}
+use Rattle.rules.specs.declared.Sample.{Sample}
+use Rattle.rules.specs.declared.Bracket.{Bracket}
+use Rattle.rules.specs.declared.Progress.{Progress}
+use Rattle.rules.specs.declared.Report.{Report}
+use Rattle.rules.specs.Rules.{slots, firstOf, secondOf, startOf, stoppedOf, nextOf, advanceOf}
+use Rattle.rules.specs.Refusals.{answerRefusal, tooLarge, Accepted}
+use Rattle.rules.specs.RefusalsLaws.{opened}
+use Rattle.rules.specs.Search.{isRefused, stoppedAt, sameSideAt, takenOf, otherAt, enteredAt, answeredAt, offerOf, takeOf, progressOf, reportAt, mostOf}
+use Rattle.rules.specs.SearchLaws.{counts, most-slots}
+use Rattle.held.specs.declared.Search.{Search}
+use Rattle.held.specs.declared.Entered.{Entered}
+use Rattle.held.specs.Held.{valuesOf, standingOf, withValue, triedOf, enterOf}
+use Rattle.held.specs.HeldLaws.{enter-refused, enter-accepted}
+use Rattle.records.specs.declared.Entries.{Entries}
+use Rattle.records.specs.Entries.{filled, entriesOf}
+use Rattle.sheet.specs.Sheet.{answersOf, leadsTo, settledAs, sheetOf}
+use Rattle.sheet.specs.SheetLaws.{outcome-accepted, sheet-read}
+use Rattle.journal.specs.Answers.{Answer}
+use Rattle.journal.specs.Journal.{sampleOf, advancedBy, bracketOf, stopOf, pointOf, journalReport, refusalOf, takes, bookWith, toldOf}
+use Rattle.journal.specs.JournalLaws.{valueOf, pointAt, stageOf, refusal-stage, Onward, Next, At, Kept, Fine, fine, kept-more, first-taken, second-taken, next-taken, kept-progress, sample-is, report-stage, at-most-answers}
+
+-- ---- the search that holds a book's values
+
+-- the opening, n as its count, the values in its first n slots in order, and 0 in the others
+abbrev pub slotsOf : List ℤ → List ℤ
+slotsOf vs = vs ++ replicate (slots - length vs) (pos 0)
+
+abbrev pub holding : Opening → List Answer → Search
+holding o book = record { opening = o; count = length book; slots = slotsOf (map valueOf book) }
+
+-- ---- the book's stage with one answer more
+
+advanced-more : (k : Bracket) (rest : List Answer) (a : Answer) → advancedBy k (rest ++ (a ∷ [])) ≡ advanceOf (advancedBy k rest) (sampleOf a)
+advanced-more k [] a = refl
+advanced-more k (x ∷ rest) a = advanced-more (advanceOf k (sampleOf x)) rest a
+
+stage-more : (o : Opening) (book : List Answer) (a : Answer) → Kept o book → Fine o book a → enteredAt o (stageOf book) (a .value) ≡ stageOf (book ++ (a ∷ []))
+unfolding pointOf
+stage-more o [] a k f = refl
+stage-more o (x ∷ []) a k f =
+    ap₂ (λ (s t : Sample). Progress.Bracketed (startOf s t)) (sym (sample-is x (firstOf o) (k .called))) (sym (sample-is a (secondOf o) (f .called)))
+stage-more o (x ∷ y ∷ rest) a k f =
+    ap (λ (s : Sample). Progress.Bracketed (advanceOf (bracketOf x y rest) s)) (sym (sample-is a (nextOf o (bracketOf x y rest)) (f .called)))
+    ∙ ap Progress.Bracketed (sym (advanced-more (startOf (sampleOf x) (sampleOf y)) rest a))
+
+stage-fine : (book : List Answer) → isRefused (stageOf book) ≡ false
+stage-fine [] = refl
+stage-fine (x ∷ []) = refl
+stage-fine (x ∷ y ∷ rest) = refl
+
+offer-stage : (o : Opening) (book : List Answer) (other : Bool) (v : ℤ) → offerOf o (stageOf book) other v ≡ answeredAt o (stageOf book) other v
+unfolding offerOf
+offer-stage o [] other v = refl
+offer-stage o (x ∷ []) other v = refl
+offer-stage o (x ∷ y ∷ rest) other v = refl
+
+map-more : (book : List Answer) (a : Answer) → map valueOf (book ++ (a ∷ [])) ≡ map valueOf book ++ (a .value ∷ [])
+map-more [] a = refl
+map-more (x ∷ book) a = ap (λ (vs : List ℤ). x .value ∷ vs) (map-more book a)
+
+module _ (o : Opening) (accepted : Accepted o) where
+  module _ (book : List Answer) (kept : Kept o book) where
+    few : length book ≤ slots
+    few = omega (arith, at-most-answers o accepted book kept, most-slots o (opened o accepted))
+
+    as-many : length (map valueOf book) ≡ length book
+    as-many = length-map book valueOf
+
+    pub slots-full : length (slotsOf (map valueOf book)) ≡ slots
+    slots-full = simp (length-append, length-replicate) (omega (arith, few, as-many))
+
+    pub values-held : valuesOf (holding o book) ≡ map valueOf book
+    values-held = take-at (map valueOf book) _ (length book) as-many
+
+    pub standing-held : standingOf (holding o book) ≡ stageOf book
+    unfolding standingOf
+    standing-held = simp (le-ltb slots (length book) few) (ap (progressOf o) values-held ∙ kept-progress o book accepted kept)
+
+    taken-stage : takenOf (stageOf book) ≡ length book
+    taken-stage = go book refl
+      where
+        go : (b : List Answer) → book ≡ b → takenOf (stageOf b) ≡ length book
+        go [] e = sym (ap length e)
+        go (x ∷ []) e = sym (ap length e)
+        go (x ∷ y ∷ rest) e =
+            counts o accepted (map valueOf book) (bracketOf x y rest) (kept-progress o book accepted kept ∙ ap stageOf e) ∙ as-many
+
+    -- where the search comes to
+    tried-held : (a : Answer)
+        → triedOf (holding o book) (a .point) (a .value)
+        ≡ cond (takes o book a) (enteredAt o (stageOf book) (a .value)) (Progress.Refused (refusalOf o book a) (length book))
+    tried-held a =
+        ap (λ (p : Progress). offerOf o p (otherAt o p (a .point)) (a .value)) standing-held
+        ∙ offer-stage o book (otherAt o (stageOf book) (a .point)) (a .value)
+        ∙ ap₂ (λ (n i : ℕ). cond (eqb n 0) (enteredAt o (stageOf book) (a .value)) (Progress.Refused n i)) (sym (refusal-stage o book a)) taken-stage
+
+-- a value in the next slot
+slots-set : (vs : List ℤ) (v : ℤ) → length vs < slots → slotsOf (vs ++ (v ∷ [])) ≡ set (slotsOf vs) (length vs) v
+slots-set vs v h =
+    let m = slots - suc (length vs) in
+    let e : slots - length vs ≡ suc m = omega arith in
+    let f : slots - length (vs ++ (v ∷ [])) ≡ m = omega (arith, length-append vs (v ∷ [])) in
+    ap (λ (n : ℕ). (vs ++ (v ∷ [])) ++ replicate n (pos 0)) f
+    ∙ append-assoc vs (v ∷ []) (replicate m (pos 0))
+    ∙ sym (set-at vs (pos 0) (replicate m (pos 0)) v (length vs) refl)
+    ∙ ap (λ (n : ℕ). set (vs ++ replicate n (pos 0)) (length vs) v) (sym e)
+
+search-more : (o : Opening) (book : List Answer) (a : Answer) → length book < slots → holding o (book ++ (a ∷ [])) ≡ withValue (holding o book) (a .value)
+search-more o book a h =
+    let n : length (map valueOf book) ≡ length book = length-map book valueOf in
+    let c : length (book ++ (a ∷ [])) ≡ length book + 1 = length-append book (a ∷ []) in
+    let s : slotsOf (map valueOf (book ++ (a ∷ []))) ≡ set (slotsOf (map valueOf book)) (length book) (a .value) =
+    ap slotsOf (map-more book a) ∙ slots-set (map valueOf book) (a .value) (omega arith) ∙ ap (λ (i : ℕ). set (slotsOf (map valueOf book)) i (a .value)) n in
+    ap₂ (λ (i : ℕ) (l : List ℤ). record { opening = o; count = i; slots = l }) c s
+
+-- ---- one call
+
+module _ (o : Opening) (accepted : Accepted o) (book : List Answer) (kept : Kept o book) (a : Answer) where
+  pub kept-with : Kept o (bookWith o book a)
+  unfolding bookWith
+  kept-with = go (takes o book a) refl
+    where
+      go : (b : Bool) → takes o book a ≡ b → Kept o (cond b (book ++ (a ∷ [])) book)
+      go true e = kept-more o book a kept (fine o book a e)
+      go false e = kept
+
+  pub call-answers : enterOf (holding o book) (a .point) (a .value) ≡ record { report = toldOf o book a; search = holding o (bookWith o book a) }
+  unfolding toldOf bookWith reportAt
+  call-answers = go (takes o book a) refl (tried-held o accepted book kept a)
+    where
+      go : (b : Bool) → takes o book a ≡ b
+          → triedOf (holding o book) (a .point) (a .value) ≡ cond b (enteredAt o (stageOf book) (a .value)) (Progress.Refused (refusalOf o book a) (length book))
+          → enterOf (holding o book) (a .point) (a .value)
+          ≡ record { report = cond b (journalReport o (book ++ (a ∷ []))) (Report.Refused (refusalOf o book a) (length book)); search = holding o (cond b (book ++ (a ∷ [])) book) }
+      go true e t =
+          let f = fine o book a e in
+          let m = kept-more o book a kept f in
+          let u : stageOf (book ++ (a ∷ [])) ≡ triedOf (holding o book) (a .point) (a .value) = sym (t ∙ stage-more o book a kept f) in
+          sym
+          (enter-accepted (holding o book) (a .point) (a .value) (stageOf (book ++ (a ∷ []))) (journalReport o (book ++ (a ∷ []))) u
+          (report-stage o accepted (book ++ (a ∷ [])) m)
+          (slots-full o accepted book kept)
+          (stage-fine (book ++ (a ∷ [])))
+          (holding o (book ++ (a ∷ [])))
+          (search-more o book a (omega (arith, few o accepted (book ++ (a ∷ [])) m, length-append book (a ∷ [])))))
+      go false e t =
+          sym
+          (enter-refused (holding o book) (a .point) (a .value) (Progress.Refused (refusalOf o book a) (length book)) (Report.Refused (refusalOf o book a) (length book)) (sym t) refl refl)
+
+-- ---- a sheet of the book
+
+-- an answer at the point called for is taken as its value alone is
+called-is : (o : Opening) (p : Progress) (a : Answer) → otherAt o p (a .point) ≡ false → offerOf o p (otherAt o p (a .point)) (a .value) ≡ takeOf o p (a .value)
+unfolding takeOf
+called-is o p a e = ap (λ (b : Bool). offerOf o p b (a .value)) e
+
+same-point : (x : ℤ) (n : ℕ) → x ≡ pos n → not (eqZ x (pos n)) ≡ false
+same-point x n e = ap not (eq-eqZ x (pos n) e)
+
+-- each answer of the book, tried as a sheet's answers are
+one-answer : (o : Opening) (p : Progress) (a : Answer) (q : Progress) → otherAt o p (a .point) ≡ false → takeOf o p (a .value) ≡ q
+    → offerOf o p (otherAt o p (a .point)) (a .value) ≡ q
+one-answer o p a q e f = called-is o p a e ∙ f
+
+onward-answers : (o : Opening) (k : Bracket) (rest : List Answer) → Onward o k rest
+    → answersOf o (Progress.Bracketed k) (map pointAt rest) (map valueOf rest) ≡ Progress.Bracketed (advancedBy k rest)
+unfolding answersOf
+onward-answers o k [] w = refl
+onward-answers o k (a ∷ rest) w =
+    let e : otherAt o (Progress.Bracketed k) (a .point) ≡ false = simp (w .0 .going) (same-point (a .point) (nextOf o k) (w .0 .called)) in
+    ap (λ (p : Progress). answersOf o p (map pointAt rest) (map valueOf rest)) (one-answer o (Progress.Bracketed k) a _ e (next-taken o k a (w .0)))
+    ∙ onward-answers o (advanceOf k (sampleOf a)) rest (w .1)
+
+answers-kept : (o : Opening) (book : List Answer) → Kept o book → answersOf o Progress.Begun (map pointAt book) (map valueOf book) ≡ stageOf book
+unfolding answersOf
+answers-kept o [] k = refl
+answers-kept o (x ∷ []) k = one-answer o Progress.Begun x _ (same-point (x .point) (firstOf o) (k .called)) (first-taken o x k)
+answers-kept o (x ∷ y ∷ rest) k =
+    ap (λ (p : Progress). answersOf o p (map pointAt (y ∷ rest)) (map valueOf (y ∷ rest)))
+    (one-answer o Progress.Begun x _ (same-point (x .point) (firstOf o) (k .0 .called)) (first-taken o x (k .0)))
+    ∙ ap (λ (p : Progress). answersOf o p (map pointAt rest) (map valueOf rest))
+    (one-answer o (Progress.First (x .value)) y _ (same-point (y .point) (secondOf o) (k .1 .called)) (second-taken o x y (k .0) (k .1) (k .2)))
+    ∙ onward-answers o (startOf (sampleOf x) (sampleOf y)) rest (k .3)
+
+settled-stage : (e : Entries) (book : List Answer) → settledAs e (stageOf book) .report ≡ reportAt (e .opening) (stageOf book)
+settled-stage e [] = refl
+settled-stage e (x ∷ []) = refl
+settled-stage e (x ∷ y ∷ rest) = refl
+
+module _ (o : Opening) (accepted : Accepted o) (book : List Answer) (kept : Kept o book) where
+  abbrev entered : Entries
+  entered = filled o (map pointAt book) (map valueOf book)
+
+  leads-to : leadsTo entered ≡ stageOf book
+  leads-to =
+      let m : length (map valueOf book) ≡ length (map pointAt book) = length-map book valueOf ∙ sym (length-map book pointAt) in
+      ap₂ (answersOf o Progress.Begun) (take-at (map pointAt book) _ _ refl) (take-at (map valueOf book) _ _ m)
+      ∙ answers-kept o book kept
+
+  pub report-sheet : (text : List ℕ) → entriesOf text ≡ entered → sheetOf text .report ≡ journalReport o book
+  report-sheet text e =
+      ap (λ (r : Entered). r .report)
+      (sym (sheet-read text entered (sym e) refl) ∙ sym (outcome-accepted entered (accepted .accepted)) ∙ ap (settledAs entered) leads-to)
+      ∙ settled-stage entered book
+      ∙ sym (report-stage o accepted book kept)
