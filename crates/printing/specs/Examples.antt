@@ -1,11 +1,10 @@
 -- Worked examples, each by computation. The texts are those of document 01 where it has one.
 -- Assumes nothing.
-use Prim.Native.Nat.{ℕ}
 use mathlib.Core.Path.{_≡_, refl}
-use mathlib.Core.List.{List, [], _∷_}
+use mathlib.Core.List.{[], _∷_}
 use lib.ListN.{length}
 use Rattle.rules.specs.declared.Report.{Report}
-use Rattle.printing.specs.Printed.{digitsWithin, digitsOf, fieldsOf, recordWith, recordOf, placed, placedLength}
+use Rattle.printing.specs.Printed.{digitsWithin, digitsOf, fieldsOf, recordWith, recordOf, longest, placed, placedLength}
 
 -- `0`
 zero-number : digitsOf 0 ≡ 48 ∷ []
@@ -42,10 +41,10 @@ refuse : recordOf (Report.Refused 6 6) ≡ 114 ∷ 101 ∷ 102 ∷ 117 ∷ 115 �
 unfolding recordOf recordWith fieldsOf digitsOf digitsWithin
 refuse = refl
 
--- no record is longer
-longest : length (recordOf (Report.Stop 4294967295 4294967295 4294967295 4294967295)) ≡ 50
+-- the bound is reached
+longest-record : length (recordOf (Report.Stop 4294967295 4294967295 4294967295 4294967295)) ≡ longest
 unfolding recordOf recordWith fieldsOf digitsOf digitsWithin
-longest = refl
+longest-record = refl
 
 -- a text of two bytes in a buffer of three, of two and of one
 with-room : placed (7 ∷ 8 ∷ []) (1 ∷ 2 ∷ 3 ∷ []) ≡ 7 ∷ 8 ∷ 3 ∷ []

@@ -11,6 +11,7 @@ use lib.Seq.{length-take-le, drop-cons, take-suc-set, append-snoc}
 use Rattle.printing.specs.declared.Line.{Line}
 use Rattle.printing.specs.Printed.{digitsOf, fieldsOf, longest}
 
+-- with nothing written
 abbrev pub blank : Line
 blank = record { bytes = replicate longest 0; len = 0 }
 
@@ -84,14 +85,16 @@ pub record SoFar (print : List ℕ → List ℕ) (l₀ : Line) (xs : List ℕ) (
   pub same : written l (print (drop i xs)) ≡ written l₀ (print xs)
   pub room : l .len + length (print (drop i xs)) ≤ longest
 
-pub none-yet : {print : List ℕ → List ℕ} {l : Line} (xs : List ℕ) → l .len + length (print xs) ≤ longest → SoFar print l xs l 0
+pub none-yet : {print : List ℕ → List ℕ} {l : Line} (xs : List ℕ) → l .len + length (print xs) ≤ longest
+    → SoFar print l xs l 0
 none-yet xs h = record { within = omega arith; same = refl; room = h }
 
-module _ {print : List ℕ → List ℕ} {piece : ℕ → List ℕ} (p : Piecewise print piece) {l₀ l : Line} {xs : List ℕ} {i : ℕ} (so-far : SoFar print l₀ xs l i) where
+module _ {print : List ℕ → List ℕ} {piece : ℕ → List ℕ} (p : Piecewise print piece) {l₀ l : Line} {xs : List ℕ} {i : ℕ}
+    (so-far : SoFar print l₀ xs l i) where
+  -- the next piece, and what is left after it
   cut : i < length xs → print (drop i xs) ≡ piece (getD xs i 0) ++ print (drop (i + 1) xs)
   cut h = rw (add-one i, drop-cons xs i 0 h) (p .one (getD xs i 0) (drop (suc i) xs))
 
-  -- the next piece fits
   pub next-fits : i < length xs → l .len + length (piece (getD xs i 0)) ≤ longest
   next-fits h = omega (arith, so-far .room, simp length-append at (ap length (cut h)))
 

@@ -1,4 +1,5 @@
--- The report as one RFC 4180 record: the word next, stop or refuse, then its numbers, then CR LF. A text is the list of its bytes.
+-- The report as one RFC 4180 record: the word next, stop or refuse, then its numbers, then CR LF. No field needs quotes. A text is
+-- the list of its bytes.
 -- Assumes nothing.
 use Prim.Native.Nat.{ℕ, zero, suc, _+_, _/_, _%_}
 use mathlib.Core.Bool.{true, false, cond}
@@ -19,7 +20,7 @@ digitsWithin zero n = []
 digitsWithin (suc f) n =
     elim (ltb n 10) [ true ↦ digit n ∷ [] | false ↦ digitsWithin f (n / 10) ++ (digit (n % 10) ∷ []) ]
 
--- no number has more than n + 1 digits
+-- the decimal digits of n, of which there are at most n + 1; 0 has one
 unfoldable pub digitsOf : ℕ → List ℕ
 digitsOf n = digitsWithin (suc n) n
 
@@ -34,6 +35,7 @@ fieldsOf (n ∷ ns) = 44 ∷ digitsOf n ++ fieldsOf ns
 abbrev pub lineEnd : List ℕ
 lineEnd = 13 ∷ 10 ∷ []
 
+-- a record of a word and numbers
 unfoldable pub recordWith : List ℕ → List ℕ → List ℕ
 recordWith word numbers = word ++ fieldsOf numbers ++ lineEnd
 
@@ -49,7 +51,6 @@ numbersOf (Report.Next point taken) = point ∷ taken ∷ []
 numbersOf (Report.Stop lower upper better taken) = lower ∷ upper ∷ better ∷ taken ∷ []
 numbersOf (Report.Refused number place) = number ∷ place ∷ []
 
--- the word, its numbers and CR LF
 unfoldable pub recordOf : Report → List ℕ
 recordOf report = recordWith (wordOf report) (numbersOf report)
 

@@ -95,8 +95,8 @@ fn line_of(report: Report) -> Line
     }
 }
 
-// Copies a text to the beginning of a buffer, if it is long enough, and says how many bytes were written.
-fn place(text: &[u8], out: &mut [u8]) -> usize
+// Copies a text to the beginning of a buffer that is long enough for it, and says how many bytes were written.
+fn place_text(text: &[u8], out: &mut [u8]) -> usize
     ensures { λ r. ⌜ r ≡ placedLength (now (text .entry)) (now (out .entry)) ⌝ }
     ensures { λ _. ⌜ now (out .exit) ≡ placed (now (text .entry)) (now (out .entry)) ⌝ }
 {
@@ -108,7 +108,7 @@ fn place(text: &[u8], out: &mut [u8]) -> usize
         out[i] = text[i];
         i += 1;
     }
-    i
+    text.len()
 }
 
 // Writes the record of a report at the beginning of `out`, whose further bytes keep their contents, and answers its length. Where
@@ -121,5 +121,5 @@ pub fn write_report(report: Report, out: &mut [u8]) -> usize
     let line = line_of(report);
     let len = line.len;
     let bytes = line.bytes;
-    place(&bytes[..len], out)
+    place_text(&bytes[..len], out)
 }

@@ -3,14 +3,13 @@
 -- Assumes nothing.
 use Prim.Native.Nat.{ℕ, _+_, _/_, _≤_, _<_}
 use mathlib.Core.Path.{_≡_, ap, _∙_}
-use mathlib.Core.List.{[], _∷_}
 use native.Mathlib.Omega.{arith}
 use lib.ListN.{length, length-append}
 use borrow.Author.Needs.{needs}
 use borrow.Fn.Kinds.{In}
 use borrow.Fn.PlainCycle.{Measures, is, falls, and}
 use Rattle.printing.specs.declared.Line.{Line}
-use Rattle.printing.specs.Printed.{digit, digitsOf}
+use Rattle.printing.specs.Printed.{digitsOf}
 use Rattle.printing.specs.declared.Line.{Line}
 use Rattle.printing.specs.PrintedLaws.{digits-one, digits-more}
 use Rattle.printing.specs.Line.{written, written-append, written-len}

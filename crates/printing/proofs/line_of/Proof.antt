@@ -2,9 +2,9 @@
 -- bits.
 -- Assumes nothing.
 use borrow.Author.Needs.{needs}
-use Rattle.rules.specs.declared.Report.{Report}
+use native.Mathlib.Omega.{arith}
 use Rattle.printing.specs.Printed.{recordOf}
-use Rattle.printing.specs.PrintedLaws.{record-length}
+use Rattle.printing.specs.PrintedLaws.{record-short}
 use Rattle.printing.proofs.line_of.Statement.{statement}
 use Rattle.printing.proofs.line_of.Tie as tie
 
@@ -18,10 +18,7 @@ slice-aggregate-line-with-2 : tie.Need-slice-aggregate-line-with-2
 slice-aggregate-line-with-2 c = search needs
 
 line-with-requires : tie.Need-line-with-requires
-unfolding recordOf
-line-with-requires c κs =
-    let told = c .before .before .before .report .given .0 in
-    record-length (Report.Next (told .0) (told .1 .0)) (search needs, (search needs, tt))
+line-with-requires c κs = record-short _ _ (search needs, (search needs, tt)) (omega arith)
 
 enum-known-report-2 : tie.Need-enum-known-report-2
 enum-known-report-2 c = search needs
@@ -33,11 +30,7 @@ slice-aggregate-line-with-4 : tie.Need-slice-aggregate-line-with-4
 slice-aggregate-line-with-4 c = search needs
 
 line-with-requires-2 : tie.Need-line-with-requires-2
-unfolding recordOf
-line-with-requires-2 c κs =
-    let told = c .before .before .before .report2 .given .0 in
-    record-length (Report.Stop (told .0) (told .1 .0) (told .1 .1 .0) (told .1 .1 .1 .0))
-    (search needs, (search needs, (search needs, (search needs, tt))))
+line-with-requires-2 c κs = record-short _ _ (search needs, (search needs, (search needs, (search needs, tt)))) (omega arith)
 
 enum-known-report-3 : tie.Need-enum-known-report-3
 enum-known-report-3 c = search needs
@@ -49,10 +42,7 @@ slice-aggregate-line-with-6 : tie.Need-slice-aggregate-line-with-6
 slice-aggregate-line-with-6 c = search needs
 
 line-with-requires-3 : tie.Need-line-with-requires-3
-unfolding recordOf
-line-with-requires-3 c κs =
-    let told = c .before .before .before .report3 .given .0 in
-    record-length (Report.Refused (told .0) (told .1 .0)) (search needs, (search needs, tt))
+line-with-requires-3 c κs = record-short _ _ (search needs, (search needs, tt)) (omega arith)
 
 returns : tie.Need-returns
 unfolding recordOf

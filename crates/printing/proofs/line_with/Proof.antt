@@ -35,7 +35,9 @@ returns c =
     let at-word = at-fields .before in
     let start = at-word .before .before .before in
     let text = recordWith (start .args .word .now) (start .args .numbers .now) in
-    let e : c .put-text2 .result ≡ written blank text = c .put-text2 .ensures ∙ rw (at-fields .put-fields .ensures, at-word .put-text .ensures, written-append, written-append) in
+    let e : c .put-text2 .result ≡ written blank text =
+    c .put-text2 .ensures
+    ∙ rw (at-fields .put-fields .ensures, at-word .put-text .ensures, written-append, written-append) in
     rw e (written-holds text (start .pre))
 
 pub line-with-spec : {M : Type 1} → statement M

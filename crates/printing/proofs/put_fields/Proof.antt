@@ -5,7 +5,6 @@ use Prim.Native.Nat.{_-_}
 use native.Mathlib.Omega.{arith}
 use lib.ListN.{length}
 use borrow.Author.Needs.{needs}
-use Rattle.printing.specs.declared.Line.{Line}
 use Rattle.printing.specs.Printed.{fieldsOf}
 use Rattle.printing.specs.Line.{written, fieldwise, SoFar, none-yet, next-fits, one-more, all-put}
 use Rattle.printing.proofs.put_fields.Statement.{statement}

@@ -2,7 +2,6 @@
 -- others. The measure is how many they are.
 -- Assumes nothing.
 use Prim.Native.Nat.{_-_}
-use mathlib.Core.List.{[], _∷_}
 use native.Mathlib.Omega.{arith}
 use lib.ListN.{length}
 use Rattle.printing.specs.Line.{written, bytewise, SoFar, none-yet, next-fits, one-more, all-put}

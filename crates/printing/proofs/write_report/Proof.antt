@@ -1,8 +1,8 @@
--- `printing::write_report` meets its contract: the bytes that it hands to `place` are the record.
+-- `printing::write_report` meets its contract: the bytes that it hands to `place_text` are the record.
 -- Assumes nothing.
 use borrow.Author.Needs.{needs}
-use mathlib.Core.Path.{sym}
-use lib.Seq.{length-take-le}
+use native.Mathlib.Omega.{arith}
+use lib.ListN.{length-take}
 use Rattle.printing.specs.Line.{holds-short}
 use Rattle.printing.proofs.write_report.Statement.{statement}
 use Rattle.printing.proofs.write_report.Tie as tie
@@ -11,13 +11,13 @@ line-of-requires : tie.Need-line-of-requires
 line-of-requires c κs = search needs
 
 array-share-prefix-bytes : tie.Need-array-share-prefix-bytes
-array-share-prefix-bytes c = c .before .line-of .ensures .inside
+array-share-prefix-bytes c = omega arith
 
-slice-aggregate-place : tie.Need-slice-aggregate-place
-slice-aggregate-place c = sym (length-take-le _ _ (c .before .before .line-of .ensures .inside))
+slice-aggregate-place-text : tie.Need-slice-aggregate-place-text
+slice-aggregate-place-text c = simp length-take (omega arith)
 
-place-requires : tie.Need-place-requires
-place-requires c κs = search needs
+place-text-requires : tie.Need-place-text-requires
+place-text-requires c κs = search needs
 
 same-length : tie.Need-same-length
 same-length c = search needs
@@ -25,9 +25,9 @@ same-length c = search needs
 returns : tie.Need-returns
 returns c =
     let held = c .before .before .before .before .before .before .line-of .ensures in
-    let done = rw (held .text-is) at (c .before .before .place .ensures) in
+    let done = rw (held .text-is) at (c .before .before .place-text .ensures) in
     (done .0, (done .1, holds-short held))
 
 pub write-report-spec : {M : Type 1} → statement M
 write-report-spec =
-    tie.close (tie.spec line-of-requires array-share-prefix-bytes slice-aggregate-place place-requires same-length returns)
+    tie.close (tie.spec line-of-requires array-share-prefix-bytes slice-aggregate-place-text place-text-requires same-length returns)
