@@ -1,9 +1,11 @@
 -- `printing::line_with` meets its contract: it puts the record's three parts one after the other, and each fits, since all do.
 -- Assumes nothing.
 use borrow.Author.Needs.{needs}
-use mathlib.Core.Path.{_≡_, _∙_}
+use Prim.Native.Nat.{ℕ}
+use mathlib.Core.Path.{_≡_}
+use mathlib.Core.List.{List}
 use native.Mathlib.Omega.{arith}
-use Rattle.printing.specs.Printed.{recordWith}
+use Rattle.printing.specs.Printed.{fieldsOf, lineEnd, recordWith}
 use Rattle.printing.specs.PrintedLaws.{record-parts}
 use Rattle.printing.specs.Line.{blank, written, written-append, written-len, written-holds}
 use Rattle.printing.proofs.line_with.Statement.{statement}
@@ -28,17 +30,17 @@ put-text-requires-2 c κs =
     simp (c .before .put-fields .ensures, c .before .before .put-text .ensures, written-len)
     (omega (arith, record-parts (s .word .now) (s .numbers .now)))
 
-returns : tie.Need-returns
+parts : (word numbers : List ℕ) → written (written (written blank word) (fieldsOf numbers)) lineEnd ≡ written blank (recordWith word numbers)
 unfolding recordWith
+parts word numbers = rw (written-append, written-append)
+
+returns : tie.Need-returns
 returns c =
     let at-fields = c .before .before in
     let at-word = at-fields .before in
     let start = at-word .before .before .before in
-    let text = recordWith (start .args .word .now) (start .args .numbers .now) in
-    let e : c .put-text2 .result ≡ written blank text =
-    c .put-text2 .ensures
-    ∙ rw (at-fields .put-fields .ensures, at-word .put-text .ensures, written-append, written-append) in
-    rw e (written-holds text (start .pre))
+    rw (c .put-text2 .ensures, at-fields .put-fields .ensures, at-word .put-text .ensures, parts (start .args .word .now) (start .args .numbers .now))
+    (written-holds _ (start .pre))
 
 pub line-with-spec : {M : Type 1} → statement M
 line-with-spec = tie.close (tie.spec put-text-requires put-fields-requires slice-aggregate-put-text put-text-requires-2 returns)
