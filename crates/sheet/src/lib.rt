@@ -6,6 +6,7 @@ ghost use Rattle.rules.specs.Rules.{slots};
 ghost use Rattle.rules.specs.RefusalsLaws.{Opened};
 ghost use Rattle.rules.specs.SearchLaws.{SoundAt, CountedAt};
 ghost use Rattle.rules.specs.declared.Progress.the-variants.{Begun};
+ghost use Rattle.printing.specs.Printed.{recordOf, placed, placedLength};
 ghost use Rattle.sheet.specs.Sheet.{answersOf, refusedAt, keptAs, settledAs, outcomeOf, sheetOf};
 use held::Entered;
 use held::Search;
@@ -108,4 +109,15 @@ pub fn read_sheet(text: &[u8]) -> Entered
         Form::Refused { number, place } => refuse(number, place),
         Form::Read => outcome(e),
     }
+}
+
+// The outcome of a text as a record's bytes, written at the beginning of `out`, and their number; `out` too short is left alone, and
+// the answer is 0.
+pub fn answer_sheet(text: &[u8], out: &mut [u8]) -> usize
+    ensures { λ r. ⌜ r ≡ placedLength (recordOf (sheetOf (now (text .entry)) .report)) (now (out .entry)) ⌝ }
+    ensures { λ _. ⌜ now (out .exit) ≡ placed (recordOf (sheetOf (now (text .entry)) .report)) (now (out .entry)) ⌝ }
+{
+    let e = read_sheet(text);
+    let report = e.report;
+    printing::write_report(report, out)
 }
