@@ -3,13 +3,13 @@
 -- Assumes nothing.
 use Prim.Native.Nat.{ℕ, zero, suc, _+_, _-_, _*_, _/_, _%_, _^_, _≤_, _<_}
 use mathlib.Core.Path.{_≡_, refl, sym, _∙_}
-use mathlib.Core.Bool.{Bool, true, false}
+use mathlib.Core.Bool.{Bool, true, false, cond}
 use mathlib.Core.List.{List, [], _∷_, _++_, foldl, foldl-append}
 use native.Mathlib.Nat.{lt-suc-self, pow-suc}
 use native.Mathlib.Omega.{arith}
 use native.Mathlib.Decide.{decLt}
 use lib.Dec.{leb}
-use lib.ListN.{length, take, drop, getD, length-append, List·getD-append}
+use lib.ListN.{length, take, drop, getD, length-append, length-drop, List·getD-append}
 use lib.Seq.{take-append-seam}
 use borrow.Author.Tests.{lt-ltb, le-ltb, le-leb, leb-true}
 use Rattle.rules.specs.declared.Report.{Report}
@@ -160,3 +160,15 @@ module _ (text buffer : List ℕ) (fits : length text ≤ length buffer) where
   pub placed-front : take (length text) (placed text buffer) ≡ text
   unfolding placed
   placed-front = rw (le-leb (length text) (length buffer) fits) (take-append-seam text (drop (length text) buffer))
+
+-- what was written lies within the buffer as it then is
+length-placed : (text buffer : List ℕ) → length (placed text buffer) ≡ length buffer
+unfolding placed
+length-placed text buffer = go (leb (length text) (length buffer)) refl
+  where
+    go : (b : Bool) → leb (length text) (length buffer) ≡ b → length (cond b (text ++ drop (length text) buffer) buffer) ≡ length buffer
+    go true e = simp (length-append, length-drop) (omega (arith, leb-true (length text) (length buffer) e))
+    go false e = refl
+
+pub written-within : (text buffer after : List ℕ) (n : ℕ) → n ≡ placedLength text buffer → after ≡ placed text buffer → n ≤ length after
+written-within text buffer after n e f = rw (e, f) (omega (arith, placed-within text buffer, length-placed text buffer))

@@ -1,27 +1,29 @@
+-- `sheet::answer_sheet` meets its contract: the record of the report that the text is read as.
+-- Assumes nothing.
+use mathlib.Core.Path.{ap, _∙_}
 use borrow.Author.Needs.{needs}
+use Rattle.held.specs.declared.Entered.{Entered}
+use Rattle.printing.specs.Printed.{recordOf, placed, placedLength}
 use Rattle.sheet.proofs.answer_sheet.Statement.{statement}
 use Rattle.sheet.proofs.answer_sheet.Tie as tie
-use Rattle.sheet.proofs.answer_sheet.Reads as reads
-use Rattle.sheet.proofs.answer_sheet.Lts as lts
-use Rattle.printing.proofs.write_report.Reads as write-report-reads
-use Rattle.sheet.proofs.read_sheet.Reads as read-sheet-reads
 
--- src/lib.rt:120:9
 read-sheet-requires : tie.Need-read-sheet-requires
 read-sheet-requires c κs = search needs
 
--- src/lib.rt:122:5
 write-report-requires : tie.Need-write-report-requires
 write-report-requires c κs = search needs
 
--- src/lib.rt:116:1
 same-length : tie.Need-same-length
 same-length c = search needs
 
--- src/lib.rt:116:1
 returns : tie.Need-returns
-returns c = ?
+returns c =
+    let w = c .before .before .write-report .ensures in
+    let r = c .before .before .before .before .read-sheet .ensures in
+    let out = c .before .before .before .before .before .before .before .args .out .now in (
+      w .0 ∙ ap (λ (e : Entered). placedLength (recordOf (e .report)) out) r,
+      w .1 .0 ∙ ap (λ (e : Entered). placed (recordOf (e .report)) out) r,
+    )
 
 pub answer-sheet-spec : {M : Type 1} → statement M
-answer-sheet-spec =
-    tie.close (tie.spec read-sheet-requires write-report-requires same-length returns)
+answer-sheet-spec = tie.close (tie.spec read-sheet-requires write-report-requires same-length returns)
