@@ -7,6 +7,7 @@ use rules::Progress;
 use rules::Report;
 
 // An opening, the number of answers taken, and their values in the first slots.
+#[repr(C)]
 pub struct Search {
     pub opening: Opening,
     pub count: u32,
