@@ -7,6 +7,7 @@ use rules::Progress;
 use rules::Report;
 
 // An opening, the number of answers taken, and their values in the first slots.
+#[repr(C)]
 pub struct Search {
     pub opening: Opening,
     pub count: u32,
@@ -116,5 +117,26 @@ impl Search {
             report,
             search: with_value(self, value),
         }
+    }
+}
+
+// The same for the host's own search: taken out whole, an answer entered or refused, and put back whole.
+pub fn enter_into(search: &mut Search, point: i32, value: i32) -> Report
+    ensures { λ r. ⌜ (r ≡ (enterOf (now (search .entry)) point value) .report) × (now (search .exit) ≡ (enterOf (now (search .entry)) point value) .search) ⌝ }
+{
+    let e = (*search).enter(point, value);
+    *search = e.search;
+    e.report
+}
+
+// The same with plain parameters: a search of one's own is lent, and comes back beside the report.
+pub fn enter_through(search: Search, point: i32, value: i32) -> Entered
+    ensures { λ r. ⌜ r ≡ enterOf search point value ⌝ }
+{
+    let mut held = search;
+    let report = enter_into(&mut held, point, value);
+    Entered {
+        report,
+        search: held,
     }
 }

@@ -10,6 +10,7 @@ pub const LARGEST_VALUE: u32 = 10000;
 pub const SLOTS: u32 = 72;
 
 // An opening: the method, the first end x0, the second end x1 and the tolerance. A sheet may hold any of them out of range.
+#[repr(C)]
 pub struct Opening {
     pub method: i32,
     pub first: i32,

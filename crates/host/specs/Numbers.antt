@@ -1,0 +1,40 @@
+-- A report and a quote as numbers, for a host that is not written in Rattle: the kind, then the numbers in document 01's order, and 0
+-- for those that are not used.
+-- Assumes nothing.
+use Prim.Native.Nat.{ℕ}
+use Rattle.rules.specs.declared.Report.{Report}
+use Rattle.rules.specs.declared.Quote.{Quote}
+use Rattle.held.specs.declared.Entered.{Entered}
+use Rattle.host.specs.declared.Numbers.{Numbers}
+use Rattle.host.specs.declared.Stepped.{Stepped}
+
+-- ---- the kinds
+
+-- a next point, or a quote
+abbrev pub going : ℕ
+going = 1
+
+-- the stop
+abbrev pub stopped : ℕ
+stopped = 2
+
+-- a refusal
+abbrev pub refused : ℕ
+refused = 3
+
+-- ---- what is told
+
+-- next: point, answers taken. Stop: lower, upper, better, answers taken. Refusal: number, place
+abbrev pub numbersOf : Report → Numbers
+numbersOf (Report.Next point taken) = record { kind = going; a = point; b = taken; c = 0; d = 0 }
+numbersOf (Report.Stop lower upper better taken) = record { kind = stopped; a = lower; b = upper; c = better; d = taken }
+numbersOf (Report.Refused number place) = record { kind = refused; a = number; b = place; c = 0; d = 0 }
+
+-- quote: t, most answers. Refusal: number, place
+abbrev pub quoteNumbers : Quote → Numbers
+quoteNumbers (Quote.Quoted t most) = record { kind = going; a = t; b = most; c = 0; d = 0 }
+quoteNumbers (Quote.Refused number place) = record { kind = refused; a = number; b = place; c = 0; d = 0 }
+
+-- a report beside its search, as numbers beside it
+abbrev pub inNumbers : Entered → Stepped
+inNumbers e = record { numbers = numbersOf (e .report); search = e .search }

@@ -1,0 +1,195 @@
+// The interface for a dryer's controller and for tests, exported for C: see include/search.h. Nothing is asked of the caller: what is
+// out of range is refused.
+ghost use mathlib.Core.Path.{_≡_};
+ghost use Rattle.rules.specs.Search.{reportOf, quoteOf};
+ghost use Rattle.held.specs.Held.{openOf, heldReport, enterOf};
+ghost use Rattle.host.specs.Numbers.{numbersOf, quoteNumbers, inNumbers};
+use held::Entered;
+use held::Search;
+use rules::Opening;
+use rules::Quote;
+use rules::Report;
+
+// A report or a quote as five numbers: an exported function cannot return an enum. `kind` is 1 for a next point or a quote, 2 for the
+// stop, 3 for a refusal; then its numbers in order, and 0 for those that are not used.
+#[repr(C)]
+pub struct Numbers {
+    pub kind: u32,
+    pub a: u32,
+    pub b: u32,
+    pub c: u32,
+    pub d: u32,
+}
+
+// A report as numbers, and beside it the search as it then is.
+pub struct Stepped {
+    pub numbers: Numbers,
+    pub search: Search,
+}
+
+// ---- by value
+
+// A report as numbers.
+fn report_numbers(report: Report) -> Numbers
+    ensures { λ r. ⌜ r ≡ numbersOf report ⌝ }
+{
+    match report {
+        Report::Next { point, taken } => Numbers {
+            kind: 1,
+            a: point,
+            b: taken,
+            c: 0,
+            d: 0,
+        },
+        Report::Stop {
+            lower,
+            upper,
+            better,
+            taken,
+        } => Numbers {
+            kind: 2,
+            a: lower,
+            b: upper,
+            c: better,
+            d: taken,
+        },
+        Report::Refused { number, place } => Numbers {
+            kind: 3,
+            a: number,
+            b: place,
+            c: 0,
+            d: 0,
+        },
+    }
+}
+
+// A quote as numbers.
+fn quote_numbers(quote: Quote) -> Numbers
+    ensures { λ r. ⌜ r ≡ quoteNumbers quote ⌝ }
+{
+    match quote {
+        Quote::Quoted { t, most } => Numbers {
+            kind: 1,
+            a: t,
+            b: most,
+            c: 0,
+            d: 0,
+        },
+        Quote::Refused { number, place } => Numbers {
+            kind: 3,
+            a: number,
+            b: place,
+            c: 0,
+            d: 0,
+        },
+    }
+}
+
+// A report beside its search, as numbers beside it.
+fn in_numbers(e: Entered) -> Stepped
+    ensures { λ r. ⌜ r ≡ inNumbers e ⌝ }
+{
+    let report = e.report;
+    let search = e.search;
+    Stepped {
+        numbers: report_numbers(report),
+        search,
+    }
+}
+
+// A fresh search.
+fn step_open(method: i32, first: i32, second: i32, tolerance: i32) -> Stepped
+    ensures { λ r. ⌜ r ≡ inNumbers (openOf (record { method = method; first = first; second = second; tolerance = tolerance })) ⌝ }
+{
+    let opening = Opening {
+        method,
+        first,
+        second,
+        tolerance,
+    };
+    in_numbers(Search::fresh(opening))
+}
+
+// An answer entered or refused.
+fn step_enter(search: Search, point: i32, value: i32) -> Stepped
+    ensures { λ r. ⌜ r ≡ inNumbers (enterOf search point value) ⌝ }
+{
+    in_numbers(search.enter(point, value))
+}
+
+// The report of a search.
+fn held_numbers(search: Search) -> Numbers
+    ensures { λ r. ⌜ r ≡ numbersOf (heldReport search) ⌝ }
+{
+    report_numbers(search.report())
+}
+
+// ---- exported
+
+// Makes the host's search a fresh one.
+#[no_mangle]
+pub extern "C" fn search_open(
+    search: &mut Search,
+    method: i32,
+    first: i32,
+    second: i32,
+    tolerance: i32,
+) -> Numbers
+    ensures { λ r. ⌜ (r ≡ numbersOf ((openOf (record { method = method; first = first; second = second; tolerance = tolerance })) .report)) × (now (search .exit) ≡ (openOf (record { method = method; first = first; second = second; tolerance = tolerance })) .search) ⌝ }
+{
+    let e = step_open(method, first, second, tolerance);
+    *search = e.search;
+    e.numbers
+}
+
+// The report of the host's search.
+#[no_mangle]
+pub extern "C" fn search_report(search: &Search) -> Numbers
+    ensures { λ r. ⌜ r ≡ numbersOf (heldReport (now (search .entry))) ⌝ }
+{
+    held_numbers(*search)
+}
+
+// Enters an answer into the host's search, or refuses it.
+#[no_mangle]
+pub extern "C" fn search_enter(search: &mut Search, point: i32, value: i32) -> Numbers
+    ensures { λ r. ⌜ (r ≡ numbersOf ((enterOf (now (search .entry)) point value) .report)) × (now (search .exit) ≡ (enterOf (now (search .entry)) point value) .search) ⌝ }
+{
+    let e = step_enter(*search, point, value);
+    *search = e.search;
+    e.numbers
+}
+
+// The report on an opening and a list of values, of any length.
+#[no_mangle]
+pub extern "C" fn search_values(
+    method: i32,
+    first: i32,
+    second: i32,
+    tolerance: i32,
+    values: &[i32],
+) -> Numbers
+    ensures { λ r. ⌜ r ≡ numbersOf (reportOf (record { method = method; first = first; second = second; tolerance = tolerance }) (now (values .entry))) ⌝ }
+{
+    let opening = Opening {
+        method,
+        first,
+        second,
+        tolerance,
+    };
+    report_numbers(search::report_on(opening, values))
+}
+
+// t and the most answers that an opening may need.
+#[no_mangle]
+pub extern "C" fn search_quote(method: i32, first: i32, second: i32, tolerance: i32) -> Numbers
+    ensures { λ r. ⌜ r ≡ quoteNumbers (quoteOf (record { method = method; first = first; second = second; tolerance = tolerance })) ⌝ }
+{
+    let opening = Opening {
+        method,
+        first,
+        second,
+        tolerance,
+    };
+    quote_numbers(search::quote(opening))
+}
