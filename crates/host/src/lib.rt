@@ -3,6 +3,7 @@
 ghost use mathlib.Core.Path.{_≡_};
 ghost use Rattle.rules.specs.Search.{reportOf, quoteOf};
 ghost use Rattle.held.specs.Held.{openOf, heldReport, enterOf};
+ghost use Rattle.sheet.specs.Sheet.{sheetOf};
 ghost use Rattle.host.specs.Numbers.{numbersOf, quoteNumbers, inNumbers};
 use held::Entered;
 use held::Search;
@@ -192,4 +193,14 @@ pub extern "C" fn search_quote(method: i32, first: i32, second: i32, tolerance: 
         tolerance,
     };
     quote_numbers(search::quote(opening))
+}
+
+// The outcome of a trial sheet; the place of a refusal is a record.
+#[no_mangle]
+pub extern "C" fn search_sheet(text: &[u8]) -> Numbers
+    ensures { λ r. ⌜ r ≡ numbersOf (sheetOf (now (text .entry)) .report) ⌝ }
+{
+    let e = sheet::read_sheet(text);
+    let report = e.report;
+    report_numbers(report)
 }
