@@ -1,0 +1,153 @@
+//! The benchmark: the library and plain.rs at the same work on the same inputs, in one run.
+
+#![forbid(unsafe_code)]
+
+use compare::rng::Rng;
+use compare::types::{Numbers, Opening, Search};
+use compare::{beam, cases, ffi, model, plain, sheets};
+use std::hint::black_box;
+use std::time::Instant;
+
+const SEED: u64 = 1975;
+const REPETITIONS: usize = 101;
+
+/// One search that was answered up to its stop, in every form in which it is to be handed over.
+struct Work {
+    opening: Opening,
+    answers: Vec<(i32, i32)>,
+    values: Vec<i32>,
+    sheet: Vec<u8>,
+}
+
+impl Work {
+    fn new(book: &model::Book) -> Self {
+        let opening = *book.opening();
+        let answers = book.pairs();
+        let sheet = sheets::write(&opening, &answers);
+        Work {
+            opening,
+            values: book.values(),
+            sheet,
+            answers,
+        }
+    }
+}
+
+/// The calls that are timed: the library's or plain.rs's.
+#[derive(Clone, Copy)]
+struct Calls {
+    enter: fn(&mut Search, i32, i32) -> Numbers,
+    values: fn(&Opening, &[i32]) -> Numbers,
+    sheet: fn(&[u8]) -> Numbers,
+}
+
+const LIBRARY: Calls = Calls {
+    enter: ffi::enter,
+    values: ffi::values,
+    sheet: ffi::sheet,
+};
+
+const PLAIN: Calls = Calls {
+    enter: plain::enter,
+    values: plain::values,
+    sheet: plain::sheet,
+};
+
+/// An operation over all works: it gives the nanoseconds that it took.
+type Timed = fn(Calls, &[Work]) -> f64;
+
+fn main() {
+    println!("bench: seed {SEED}; what answers is {}", ffi::WHO);
+    println!("Median of {REPETITIONS} repetitions of each, library and plain.rs by turns.");
+    println!("Buffers (searches, lists, sheets) are prepared before and outside the timed part.");
+    println!(
+        "An answer is entered into a search that holds the ones before it, each walked again."
+    );
+    let mut rng = Rng::new(SEED);
+    println!("\noperation                          library ns    plain ns  library/plain");
+    table("usual", &usual(&mut rng));
+    table("long", &long(&mut rng));
+}
+
+/// Searches as ovens of every kind answer them.
+fn usual(rng: &mut Rng) -> Vec<Work> {
+    let one = |_| Work::new(&cases::answered(cases::accepted_opening(rng), rng));
+    (0..1_000).map(one).collect()
+}
+
+/// The longest searches that the beam finds from 0 to 20,000 at τ = 1, by M and by R.
+fn long(rng: &mut Rng) -> Vec<Work> {
+    let mut works = Vec::new();
+    for method in [1, 2] {
+        let opening = Opening::new(method, 0, 20_000, 1);
+        for order in beam::longest(&opening, 150, rng) {
+            works.push(Work::new(&model::Book::of(opening, &order)));
+        }
+    }
+    works
+}
+
+/// Three lines of the table.
+fn table(kind: &str, works: &[Work]) {
+    let searches = works.len();
+    let answers: usize = works.iter().map(|work| work.values.len()).sum();
+    let mean = answers as f64 / searches as f64;
+    println!("{searches} {kind} searches of {mean:.1} answers in the mean:");
+    line("  an answer entered", works, answers, entering);
+    line("  a list of values", works, searches, listing);
+    line("  a sheet", works, searches, reading);
+}
+
+/// One line: the medians of both, by turns, for so many operations.
+fn line(name: &str, works: &[Work], operations: usize, timed: Timed) {
+    let mut library = Vec::new();
+    let mut plain = Vec::new();
+    for _ in 0..REPETITIONS {
+        library.push(timed(LIBRARY, works) / operations as f64);
+        plain.push(timed(PLAIN, works) / operations as f64);
+    }
+    let (library, plain) = (median(library), median(plain));
+    let ratio = library / plain;
+    println!("{name:<33} {library:>11.1} {plain:>11.1} {ratio:>14.2}");
+}
+
+fn median(mut list: Vec<f64>) -> f64 {
+    list.sort_by(f64::total_cmp);
+    list[list.len() / 2]
+}
+
+/// Every answer of every work entered into the host's own search.
+fn entering(calls: Calls, works: &[Work]) -> f64 {
+    let fresh = |work: &Work| Search::fresh(work.opening);
+    let mut searches: Vec<Search> = works.iter().map(fresh).collect();
+    let start = Instant::now();
+    for (search, work) in searches.iter_mut().zip(works) {
+        for &(point, value) in &work.answers {
+            black_box((calls.enter)(search, black_box(point), black_box(value)));
+        }
+    }
+    let time = start.elapsed();
+    black_box(&searches);
+    time.as_nanos() as f64
+}
+
+/// Every work's list of values.
+fn listing(calls: Calls, works: &[Work]) -> f64 {
+    let start = Instant::now();
+    for work in works {
+        black_box((calls.values)(
+            black_box(&work.opening),
+            black_box(&work.values),
+        ));
+    }
+    start.elapsed().as_nanos() as f64
+}
+
+/// Every work's sheet.
+fn reading(calls: Calls, works: &[Work]) -> f64 {
+    let start = Instant::now();
+    for work in works {
+        black_box((calls.sheet)(black_box(&work.sheet)));
+    }
+    start.elapsed().as_nanos() as f64
+}

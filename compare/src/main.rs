@@ -1,0 +1,404 @@
+//! The comparison: the proved library against the model, from a fixed seed. It ends with the number
+//! of cases and exit status 0, or with the first mismatch and exit status 1.
+
+#![forbid(unsafe_code)]
+
+use compare::cases::{self, Oven};
+use compare::ffi;
+use compare::model::{self, Book};
+use compare::rng::Rng;
+use compare::types::{Numbers, Opening, Search};
+use compare::{beam, sheets};
+use std::fmt::{self, Debug};
+use std::process::ExitCode;
+use std::time::Instant;
+
+const SEED: u64 = 1975;
+const LISTS: usize = 500_000;
+const RUNS: usize = 500_000;
+const SHEETS: usize = 600_000;
+
+/// The states that the beam keeps, for the widest search and for each of the others.
+const WIDE: usize = 1_500;
+const NARROW: usize = 20;
+const NARROW_SEARCHES: usize = 60;
+
+/// How often each of the widest search's orders is left on the way and answered otherwise.
+const BRANCHES: usize = 10;
+
+/// The error tells of the mismatch, with its input.
+type Checked = Result<(), String>;
+
+/// A part of the comparison.
+type Part = fn(&mut Rng, &mut Tally) -> Checked;
+
+fn main() -> ExitCode {
+    println!("compare: seed {SEED}; what answers is {}", ffi::WHO);
+    match compare(&mut Rng::new(SEED)) {
+        Ok(cases) => {
+            println!("compare: {cases} cases, 0 mismatches");
+            ExitCode::SUCCESS
+        }
+        Err(mismatch) => {
+            println!("{mismatch}");
+            println!("compare: a mismatch; the cases after it were not tried");
+            ExitCode::FAILURE
+        }
+    }
+}
+
+/// All parts in turn, and the number of cases.
+fn compare(rng: &mut Rng) -> Result<u64, String> {
+    let mut cases = 0;
+    let parts: [(&str, Part); 5] = [
+        ("lists of values", lists),
+        ("runs of calls", runs),
+        ("sheets", any_sheets),
+        ("long orders of values", long_orders),
+        ("quotes", quotes),
+    ];
+    for (name, part) in parts {
+        let start = Instant::now();
+        let mut tally = Tally::default();
+        part(rng, &mut tally)?;
+        let seconds = start.elapsed().as_secs_f32();
+        println!("{name}: {} in {seconds:.1} s; {tally}", tally.cases);
+        cases += tally.cases;
+    }
+    Ok(cases)
+}
+
+/// What was tried, and what was answered.
+#[derive(Default)]
+struct Tally {
+    cases: u64,
+    next: u64,
+    stop: u64,
+    refused: [u64; 13],
+}
+
+impl Tally {
+    fn count(&mut self, report: &Numbers) {
+        match report.kind {
+            Numbers::NEXT => self.next += 1,
+            Numbers::STOP => self.stop += 1,
+            _ => self.refused[report.a as usize] += 1,
+        }
+    }
+}
+
+impl fmt::Display for Tally {
+    fn fmt(&self, f: &mut fmt::Formatter) -> fmt::Result {
+        write!(f, "answered next {}, stop {}", self.next, self.stop)?;
+        let refused = self.refused.iter().enumerate();
+        for (number, times) in refused.filter(|(_, &times)| times > 0) {
+            write!(f, ", refuse {number} {times}")?;
+        }
+        Ok(())
+    }
+}
+
+/// A mismatch unless the two are the same.
+fn agree<T: PartialEq + Debug>(model: T, library: T, input: impl Fn() -> String) -> Checked {
+    if model == library {
+        return Ok(());
+    }
+    let input = input();
+    Err(format!(
+        "MISMATCH\n{input}\nmodel:   {model:?}\nlibrary: {library:?}"
+    ))
+}
+
+/// The same for two reports, which are counted, with the bound on the answers.
+fn agree_on_report(
+    opening: &Opening,
+    (model, library): (Numbers, Numbers),
+    tally: &mut Tally,
+    input: impl Fn() -> String,
+) -> Checked {
+    agree(model, library, &input)?;
+    tally.count(&library);
+    let most = model::quote(opening).b;
+    let kept = match library.kind {
+        Numbers::NEXT => library.b < most,
+        Numbers::STOP => library.d <= most,
+        _ => true,
+    };
+    if !kept {
+        let input = input();
+        return Err(format!("BOUND OF {most} BROKEN\n{input}\n{library:?}"));
+    }
+    Ok(())
+}
+
+/// A list of values as a sheet, with the points called for; 0 where none is.
+fn list_as_sheet(opening: &Opening, values: &[i32]) -> String {
+    let accepted = model::refused_opening(opening).is_none();
+    let mut book = accepted.then(|| Book::new(*opening));
+    let mut answers = Vec::new();
+    for &value in values {
+        let point = book.as_ref().and_then(Book::called).unwrap_or(0);
+        answers.push((point, value));
+        if let Some(book) = &mut book {
+            book.offer(point, value);
+        }
+    }
+    sheets::show(&sheets::write(opening, &answers))
+}
+
+/// A call on a held search.
+#[derive(Clone, Copy, Debug)]
+enum Call {
+    Open(Opening),
+    Report,
+    Enter(i32, i32),
+}
+
+/// A held search as a sheet, then whole; and the call on it.
+fn search_as_sheet(search: &Search, call: Call) -> String {
+    let held = search.slots.iter().take(search.count as usize);
+    let values: Vec<i32> = held.copied().collect();
+    let sheet = list_as_sheet(&search.opening, &values);
+    format!("{sheet}held as {search:?}\ncall: {call:?}")
+}
+
+/// The search over lists of values.
+fn lists(rng: &mut Rng, tally: &mut Tally) -> Checked {
+    for _ in 0..LISTS {
+        let (opening, values) = cases::any_list(rng);
+        list_agrees(&opening, &values, tally)?;
+        tally.cases += 1;
+    }
+    Ok(())
+}
+
+fn list_agrees(opening: &Opening, values: &[i32], tally: &mut Tally) -> Checked {
+    let reports = (model::values(opening, values), ffi::values(opening, values));
+    agree_on_report(opening, reports, tally, || list_as_sheet(opening, values))
+}
+
+/// Runs of calls: by turns one from a fresh search, and one from a search that holds anything.
+fn runs(rng: &mut Rng, tally: &mut Tally) -> Checked {
+    for k in 0..RUNS {
+        match k % 2 {
+            0 => fresh_run(rng, tally)?,
+            _ => junk_run(rng, tally)?,
+        }
+        tally.cases += 1;
+    }
+    Ok(())
+}
+
+/// A run as the trial book speaks of it, with every call's report and the whole search after it.
+fn fresh_run(rng: &mut Rng, tally: &mut Tally) -> Checked {
+    let mut book = Book::new(cases::accepted_opening(rng));
+    let oven = Oven::new(book.opening(), rng);
+    let mut search = cases::any_search(rng);
+    let before = search;
+    let opened = ffi::open(&mut search, book.opening());
+    let input = || search_as_sheet(&before, Call::Open(*book.opening()));
+    search_agrees(&book, opened, &search, tally, input)?;
+    let mut calls_after_stop = rng.below(4);
+    while !rng.once_in(64) {
+        let (point, value) = match book.called() {
+            Some(called) => offer(&book, &oven, called, rng),
+            None if calls_after_stop == 0 => break,
+            None => {
+                calls_after_stop -= 1;
+                (rng.between(0, 20_000), cases::any_value(rng))
+            }
+        };
+        call_agrees(&mut book, &mut search, (point, value), tally)?;
+    }
+    ends_agree(&book, rng, tally)
+}
+
+/// An answer to offer: mostly the one called for.
+fn offer(book: &Book, oven: &Oven, called: i32, rng: &mut Rng) -> (i32, i32) {
+    let value = oven.value(book, called, rng);
+    match rng.below(16) {
+        0 => (cases::any_point(book.opening(), called, rng), value),
+        1 => (called, cases::any_value(rng)),
+        2 => {
+            let point = cases::any_point(book.opening(), called, rng);
+            (point, cases::any_value(rng))
+        }
+        _ => (called, value),
+    }
+}
+
+/// One call of a run.
+fn call_agrees(
+    book: &mut Book,
+    search: &mut Search,
+    (point, value): (i32, i32),
+    tally: &mut Tally,
+) -> Checked {
+    let before = *search;
+    let input = || search_as_sheet(&before, Call::Enter(point, value));
+    let reports = (book.offer(point, value), ffi::enter(search, point, value));
+    agree_on_report(book.opening(), reports, tally, input)?;
+    search_agrees(book, ffi::report(search), search, tally, input)
+}
+
+/// The search and its report, after the call that `input` tells of, are the book's.
+fn search_agrees(
+    book: &Book,
+    report: Numbers,
+    search: &Search,
+    tally: &mut Tally,
+    input: impl Fn() -> String,
+) -> Checked {
+    agree(book.search(), *search, &input)?;
+    agree_on_report(book.opening(), (book.report(), report), tally, input)
+}
+
+/// The list of the book's values and a sheet of its answers get the book's report.
+fn ends_agree(book: &Book, rng: &mut Rng, tally: &mut Tally) -> Checked {
+    let (opening, values) = (book.opening(), book.values());
+    let reports = (book.report(), ffi::values(opening, &values));
+    agree_on_report(opening, reports, tally, || list_as_sheet(opening, &values))?;
+    let text = sheets::write_spelt(opening, &book.pairs(), rng);
+    let reports = (book.report(), ffi::sheet(&text));
+    agree_on_report(opening, reports, tally, || sheets::show(&text))
+}
+
+/// A few calls on a search that holds anything, each on the model's copy and on the library's, with
+/// its report, the whole search after it, and that search's report.
+fn junk_run(rng: &mut Rng, tally: &mut Tally) -> Checked {
+    let mut model = cases::any_search(rng);
+    let mut library = model;
+    for _ in 0..1 + rng.below(5) {
+        let before = model;
+        let call = junk_call(&model, rng);
+        let reports = match call {
+            Call::Open(opening) => (
+                model::open(&mut model, &opening),
+                ffi::open(&mut library, &opening),
+            ),
+            Call::Report => (model::report(&model), ffi::report(&library)),
+            Call::Enter(point, value) => (
+                model::enter(&mut model, point, value),
+                ffi::enter(&mut library, point, value),
+            ),
+        };
+        let input = || search_as_sheet(&before, call);
+        agree_on_report(&model.opening, reports, tally, input)?;
+        agree(model, library, input)?;
+        let reports = (model::report(&model), ffi::report(&library));
+        let input = || search_as_sheet(&model, Call::Report);
+        agree_on_report(&model.opening, reports, tally, input)?;
+    }
+    Ok(())
+}
+
+/// A call for a search that holds anything: mostly an answer, and that mostly at the point called
+/// for.
+fn junk_call(search: &Search, rng: &mut Rng) -> Call {
+    match rng.below(8) {
+        0 => return Call::Open(cases::any_opening(rng)),
+        1 => return Call::Report,
+        _ => (),
+    }
+    let report = model::report(search);
+    let called = match report.kind {
+        Numbers::NEXT => report.a as i32,
+        _ => 0,
+    };
+    let point = match rng.below(8) {
+        0 => cases::any_point(&search.opening, called, rng),
+        _ => called,
+    };
+    Call::Enter(point, cases::any_value(rng))
+}
+
+/// Sheets, whole and damaged.
+fn any_sheets(rng: &mut Rng, tally: &mut Tally) -> Checked {
+    for _ in 0..SHEETS {
+        let text = sheets::any_text(rng);
+        let (model, library) = (model::sheet(&text), ffi::sheet(&text));
+        agree(model, library, || sheets::show(&text))?;
+        tally.count(&library);
+        tally.cases += 1;
+    }
+    Ok(())
+}
+
+/// Orders of values that make searches long.
+fn long_orders(rng: &mut Rng, tally: &mut Tally) -> Checked {
+    for (name, method) in [("M", 1), ("R", 2)] {
+        let opening = Opening::new(method, 0, 20_000, 1);
+        let orders = beam::longest(&opening, WIDE, rng);
+        orders_agree(&opening, &orders, tally)?;
+        branches_agree(&opening, &orders, rng, tally)?;
+        let most = model::quote(&opening).b;
+        let longest = &orders[0];
+        println!(
+            "longest search by {name} found: {} answers, the bound is {most}: {longest:?}",
+            longest.len()
+        );
+    }
+    for _ in 0..NARROW_SEARCHES {
+        let opening = cases::accepted_opening(rng);
+        let orders = beam::longest(&opening, NARROW, rng);
+        orders_agree(&opening, &orders, tally)?;
+    }
+    Ok(())
+}
+
+/// Each order as a run of calls, and as lists of 1, 2, 3 and so on of its values.
+fn orders_agree(opening: &Opening, orders: &[Vec<i32>], tally: &mut Tally) -> Checked {
+    for order in orders {
+        let mut book = Book::new(*opening);
+        let mut search = book.search();
+        for (n, &value) in order.iter().enumerate() {
+            let called = book.called().expect("no order is longer than its search");
+            call_agrees(&mut book, &mut search, (called, value), tally)?;
+            list_agrees(opening, &order[..=n], tally)?;
+        }
+        tally.cases += 1;
+    }
+    Ok(())
+}
+
+/// Each order left at some place, with an oven for the rest of the way.
+fn branches_agree(
+    opening: &Opening,
+    orders: &[Vec<i32>],
+    rng: &mut Rng,
+    tally: &mut Tally,
+) -> Checked {
+    for order in orders.iter().flat_map(|order| [order; BRANCHES]) {
+        let kept = &order[..rng.below(order.len())];
+        let branch = cases::answered_from(*opening, kept, rng);
+        list_agrees(opening, &branch.values(), tally)?;
+        tally.cases += 1;
+    }
+    Ok(())
+}
+
+/// The quote for every distance by each method and many tolerances, and for openings of any kind.
+fn quotes(rng: &mut Rng, tally: &mut Tally) -> Checked {
+    let tolerances = [1, 2, 3, 4, 5, 7, 10, 50, 99, 100, 1_000, 4_999, 5_000];
+    for distance in 1..=20_000 {
+        let low = rng.between(0, 20_000 - distance);
+        for tolerance in tolerances {
+            for method in 0..=2 {
+                quote_agrees(&Opening::new(method, low, low + distance, tolerance), tally)?;
+                quote_agrees(&Opening::new(method, low + distance, low, tolerance), tally)?;
+            }
+        }
+    }
+    for _ in 0..100_000 {
+        quote_agrees(&cases::any_opening(rng), tally)?;
+    }
+    Ok(())
+}
+
+fn quote_agrees(opening: &Opening, tally: &mut Tally) -> Checked {
+    let (model, library) = (model::quote(opening), ffi::quote(opening));
+    agree(model, library, || list_as_sheet(opening, &[]))?;
+    tally.count(&library);
+    tally.cases += 1;
+    Ok(())
+}

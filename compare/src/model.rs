@@ -1,0 +1,518 @@
+//! The model, from document 01 alone. Slow and plain: exact fractions, brackets kept in a list, the
+//! streak found by looking back over that list, and every report worked out from the beginning.
+
+use crate::types::{Numbers, Opening, Search, SLOTS};
+use std::cmp::Ordering;
+
+/// An exact fraction. The denominator is above 0.
+#[derive(Clone, Copy, Debug)]
+struct Ratio {
+    num: i128,
+    den: i128,
+}
+
+impl Ratio {
+    /// `den` is of either sign, and not 0.
+    fn new(num: i128, den: i128) -> Self {
+        assert_ne!(den, 0);
+        Ratio {
+            num: num * den.signum(),
+            den: den.abs(),
+        }
+    }
+
+    fn whole(num: i128) -> Self {
+        Ratio::new(num, 1)
+    }
+
+    fn times(self, n: i128) -> Self {
+        Ratio::new(self.num * n, self.den)
+    }
+
+    fn floor(self) -> i128 {
+        self.num.div_euclid(self.den)
+    }
+}
+
+impl PartialEq for Ratio {
+    fn eq(&self, other: &Self) -> bool {
+        self.num * other.den == other.num * self.den
+    }
+}
+
+impl PartialOrd for Ratio {
+    fn partial_cmp(&self, other: &Self) -> Option<Ordering> {
+        (self.num * other.den).partial_cmp(&(other.num * self.den))
+    }
+}
+
+/// An answer: a point and its value F(p).
+#[derive(Clone, Copy, Debug, PartialEq, Eq)]
+pub struct Answer {
+    pub point: i128,
+    pub value: i128,
+}
+
+/// A bracket: b is the better end, c the other. d is absent before the third answer.
+#[derive(Clone, Copy, Debug)]
+struct Bracket {
+    a: Answer,
+    b: Answer,
+    c: Answer,
+    d: Option<Answer>,
+}
+
+impl Bracket {
+    /// L.
+    fn length(&self) -> i128 {
+        (self.b.point - self.c.point).abs()
+    }
+
+    /// 1 if c is above b, −1 if below.
+    fn direction(&self) -> i128 {
+        (self.c.point - self.b.point).signum()
+    }
+}
+
+/// Rule 1.
+fn first_bracket(at0: Answer, at1: Answer) -> Bracket {
+    let (b, c) = if at1.value.abs() <= at0.value.abs() {
+        (at1, at0)
+    } else {
+        (at0, at1)
+    };
+    let (a, d) = (c, None);
+    Bracket { a, b, c, d }
+}
+
+/// Rule 6: `x` is the new answer, `before` the one just before it.
+fn next_bracket(old: &Bracket, before: Answer, x: Answer) -> Bracket {
+    let partner = if before.value * x.value <= 0 {
+        before
+    } else if before == old.b {
+        old.c
+    } else {
+        old.b
+    };
+    let (a, b, c) = if x.value.abs() <= partner.value.abs() {
+        (old.b, x, partner)
+    } else {
+        (x, partner, x)
+    };
+    let d = if b == x || b == old.b { old.a } else { old.b };
+    let d = Some(d);
+    Bracket { a, b, c, d }
+}
+
+/// The brackets after the second answer, the third and so on. None below two answers.
+fn brackets(answers: &[Answer]) -> Vec<Bracket> {
+    let mut list = Vec::new();
+    for k in 1..answers.len() {
+        list.push(match list.last() {
+            None => first_bracket(answers[0], answers[1]),
+            Some(old) => next_bracket(old, answers[k - 1], answers[k]),
+        });
+    }
+    list
+}
+
+/// Rule 7: whether a step halves.
+fn halves(old: &Bracket, new: &Bracket) -> bool {
+    2 * new.length() <= old.length() + 1
+}
+
+/// Rule 7: s, by looking back over the brackets to the last halving step, or to the first of all.
+fn streak(list: &[Bracket]) -> usize {
+    let steps = list.windows(2).rev();
+    steps.take_while(|pair| !halves(&pair[0], &pair[1])).count()
+}
+
+/// Rule 4: u, or none where D is to be L/2 rounded down.
+fn linear(now: &Bracket) -> Option<Ratio> {
+    let (a, b) = (now.a, now.b);
+    if b.value == a.value {
+        return (b.value == 0).then_some(Ratio::whole(0));
+    }
+    let from_b = Ratio::new(-b.value * (b.point - a.point), b.value - a.value);
+    Some(from_b.times(now.direction()))
+}
+
+/// Rule 5: u, or none where D is to be L/2 rounded down.
+fn rational(now: &Bracket) -> Option<Ratio> {
+    let (a, b) = (now.a, now.b);
+    let d = now.d.expect("d is there from the third answer on");
+    let s = b.value * (a.value - d.value) * (b.point - d.point);
+    let q = s - a.value * (b.value - d.value) * (a.point - d.point);
+    if q == 0 {
+        return (s == 0).then_some(Ratio::whole(0));
+    }
+    let from_b = Ratio::new(-s * (b.point - a.point), q);
+    Some(from_b.times(now.direction()))
+}
+
+/// Rule 8: u for the next step, or none where D is to be L/2 rounded down.
+fn estimate(method: i32, list: &[Bracket]) -> Option<Ratio> {
+    let now = &list[list.len() - 1];
+    let s = streak(list);
+    if method == 2 {
+        match s {
+            _ if list.len() == 1 => linear(now),
+            0..=2 => rational(now),
+            3 => rational(now).map(|u| u.times(2)),
+            4 => None,
+            _ => panic!("R with a streak of {s}"),
+        }
+    } else {
+        match s {
+            0 | 1 => linear(now),
+            2 => rational(now),
+            3 => None,
+            _ => panic!("M with a streak of {s}"),
+        }
+    }
+}
+
+/// Rule 3: D.
+fn displacement(u: Option<Ratio>, length: i128, tolerance: i128) -> i128 {
+    let (zero, tau) = (Ratio::whole(0), Ratio::whole(tolerance));
+    let half = Ratio::new(length, 2);
+    match u {
+        Some(u) if zero <= u && u <= tau => tolerance,
+        Some(u) if tau < u && u <= half => u.floor(),
+        _ => half.floor(),
+    }
+}
+
+/// Where a search stands: at the stop with this bracket, or with this point called for.
+enum Stand {
+    Stop(Bracket),
+    Call(i128),
+}
+
+/// Rules 1 to 8 applied to answers that were all accepted, of an accepted opening.
+fn stand(opening: &Opening, answers: &[Answer]) -> Stand {
+    let tolerance = i128::from(opening.tolerance);
+    let list = brackets(answers);
+    match (answers.len(), list.last()) {
+        (0, _) => Stand::Call(opening.first.into()),
+        (_, None) => Stand::Call(opening.second.into()),
+        // Rule 2.
+        (_, Some(now)) if now.length() <= 2 * tolerance => Stand::Stop(*now),
+        (_, Some(now)) => {
+            let u = estimate(opening.method, &list);
+            let d = displacement(u, now.length(), tolerance);
+            Stand::Call(now.b.point + d * now.direction())
+        }
+    }
+}
+
+/// The report of answers that were all accepted.
+fn report_of(opening: &Opening, answers: &[Answer]) -> Numbers {
+    let taken = answers.len() as u32;
+    match stand(opening, answers) {
+        Stand::Call(point) => Numbers::next(point as u32, taken),
+        Stand::Stop(Bracket { b, c, .. }) => {
+            let (lower, upper) = (b.point.min(c.point), b.point.max(c.point));
+            Numbers::stop(lower as u32, upper as u32, b.point as u32, taken)
+        }
+    }
+}
+
+/// Refusals 1 to 4: the first that applies.
+pub fn refused_opening(opening: &Opening) -> Option<u32> {
+    let end = 0..=20_000;
+    if ![0, 1, 2].contains(&opening.method) {
+        Some(1)
+    } else if !end.contains(&opening.first) || !end.contains(&opening.second) {
+        Some(2)
+    } else if opening.first == opening.second {
+        Some(3)
+    } else if !(1..=5_000).contains(&opening.tolerance) {
+        Some(4)
+    } else {
+        None
+    }
+}
+
+/// Refusal 7: the value is out of range.
+fn out_of_range(value: i32) -> bool {
+    !(-10_000..=10_000).contains(&value)
+}
+
+/// Refusal 8: a second answer whose value has the sign of the first.
+fn same_side(answers: &[Answer], value: i32) -> bool {
+    answers.len() == 1 && answers[0].value * i128::from(value) > 0
+}
+
+/// The search over a list of values: the answers that they make, or the refusal and its index.
+fn walk(opening: &Opening, values: &[i32]) -> Result<Vec<Answer>, Numbers> {
+    if let Some(number) = refused_opening(opening) {
+        return Err(Numbers::refuse(number, 0));
+    }
+    let mut answers = Vec::new();
+    for (index, &value) in values.iter().enumerate() {
+        let refuse = |number| Err(Numbers::refuse(number, index as u32));
+        let Stand::Call(point) = stand(opening, &answers) else {
+            return refuse(5);
+        };
+        if out_of_range(value) {
+            return refuse(7);
+        }
+        if same_side(&answers, value) {
+            return refuse(8);
+        }
+        let value = value.into();
+        answers.push(Answer { point, value });
+    }
+    Ok(answers)
+}
+
+/// The report of the search over a list of values.
+pub fn values(opening: &Opening, values: &[i32]) -> Numbers {
+    match walk(opening, values) {
+        Ok(answers) => report_of(opening, &answers),
+        Err(refusal) => refusal,
+    }
+}
+
+/// A fresh search in the host's own; all zeros if the opening is refused.
+pub fn open(search: &mut Search, opening: &Opening) -> Numbers {
+    let report = values(opening, &[]);
+    *search = match report.kind {
+        Numbers::REFUSE => Search::ZERO,
+        _ => Search::fresh(*opening),
+    };
+    report
+}
+
+/// The values that a search holds. Refusal 9 if it says that it holds more than it has slots.
+fn held(search: &Search) -> Result<&[i32], Numbers> {
+    let count = search.count as usize;
+    search.slots.get(..count).ok_or(Numbers::refuse(9, 0))
+}
+
+/// The report of a held search.
+pub fn report(search: &Search) -> Numbers {
+    match held(search) {
+        Ok(list) => values(&search.opening, list),
+        Err(refusal) => refusal,
+    }
+}
+
+/// An answer entered into the host's own search.
+pub fn enter(search: &mut Search, point: i32, value: i32) -> Numbers {
+    match offered(search, point, value) {
+        Some(refusal) => refusal,
+        None => {
+            search.slots[search.count as usize] = value;
+            search.count += 1;
+            report(search)
+        }
+    }
+}
+
+/// The refusal, if there is one, of an answer offered to a held search. What is held comes first.
+fn offered(search: &Search, point: i32, value: i32) -> Option<Numbers> {
+    let answers = match held(search).and_then(|list| walk(&search.opening, list)) {
+        Ok(answers) => answers,
+        Err(refusal) => return Some(refusal),
+    };
+    let refuse = |number| Some(Numbers::refuse(number, search.count));
+    match stand(&search.opening, &answers) {
+        Stand::Stop(_) => refuse(5),
+        Stand::Call(called) if called != i128::from(point) => refuse(6),
+        Stand::Call(_) if out_of_range(value) => refuse(7),
+        Stand::Call(_) if same_side(&answers, value) => refuse(8),
+        Stand::Call(_) => None,
+    }
+}
+
+/// Demand 3's t, the least for which τ·2^(t+1) reaches the distance, and the most answers.
+pub fn quote(opening: &Opening) -> Numbers {
+    if let Some(number) = refused_opening(opening) {
+        return Numbers::refuse(number, 0);
+    }
+    let distance = i64::from(opening.first.abs_diff(opening.second));
+    let enough = |t: &u32| i64::from(opening.tolerance) << (t + 1) >= distance;
+    let t = (0..).find(enough).expect("there is a least t");
+    let steps = if opening.method == 2 { 5 } else { 4 };
+    Numbers::quote(t, 2 + steps * t)
+}
+
+/// The trial book: a list of answers. It is fed the opening and the answers offered, nothing else.
+pub struct Book {
+    opening: Opening,
+    answers: Vec<Answer>,
+}
+
+impl Book {
+    /// The book of an accepted opening.
+    pub fn new(opening: Opening) -> Self {
+        assert_eq!(refused_opening(&opening), None);
+        let answers = Vec::new();
+        Book { opening, answers }
+    }
+
+    /// The book of an accepted opening and values that are all accepted, each offered at the point
+    /// called for.
+    pub fn of(opening: Opening, values: &[i32]) -> Self {
+        let mut book = Book::new(opening);
+        for &value in values {
+            let point = book.called().expect("no value comes after the stop");
+            book.offer(point, value);
+        }
+        assert_eq!(book.values(), values);
+        book
+    }
+
+    pub fn answers(&self) -> &[Answer] {
+        &self.answers
+    }
+
+    /// The answers as a host enters them: points and values.
+    pub fn pairs(&self) -> Vec<(i32, i32)> {
+        let pair = |x: &Answer| (x.point as i32, x.value as i32);
+        self.answers.iter().map(pair).collect()
+    }
+
+    pub fn opening(&self) -> &Opening {
+        &self.opening
+    }
+
+    /// The values in order.
+    pub fn values(&self) -> Vec<i32> {
+        self.answers.iter().map(|x| x.value as i32).collect()
+    }
+
+    pub fn report(&self) -> Numbers {
+        report_of(&self.opening, &self.answers)
+    }
+
+    /// The point called for; none at the stop.
+    pub fn called(&self) -> Option<i32> {
+        match stand(&self.opening, &self.answers) {
+            Stand::Call(point) => Some(point as i32),
+            Stand::Stop(_) => None,
+        }
+    }
+
+    /// The last two ends, the better one first; none below two answers.
+    pub fn ends(&self) -> Option<(Answer, Answer)> {
+        brackets(&self.answers).last().map(|now| (now.b, now.c))
+    }
+
+    /// An offered answer is tried against the row "Each answer in turn", in its order.
+    pub fn offer(&mut self, point: i32, value: i32) -> Numbers {
+        let n = self.answers.len();
+        let called = self.called();
+        let new = Answer {
+            point: point.into(),
+            value: value.into(),
+        };
+        let signs = || (self.answers[0].value.signum(), new.value.signum());
+        let row = [
+            (5, called.is_none()),
+            (6, called != Some(point)),
+            (7, new.value.abs() > 10_000),
+            (8, n == 1 && matches!(signs(), (1, 1) | (-1, -1))),
+        ];
+        if let Some((number, _)) = row.iter().find(|(_, applies)| *applies) {
+            return Numbers::refuse(*number, n as u32);
+        }
+        self.answers.push(new);
+        self.report()
+    }
+
+    /// What the search holds after the run.
+    pub fn search(&self) -> Search {
+        let mut search = Search::fresh(self.opening);
+        search.count = self.answers.len() as u32;
+        let slots = search.slots.iter_mut();
+        slots.zip(self.values()).for_each(|(slot, v)| *slot = v);
+        search
+    }
+}
+
+/// The sheet reader: the program's report of a text. Places are record numbers.
+pub fn sheet(text: &[u8]) -> Numbers {
+    let rows = match rows(text) {
+        Ok(rows) => rows,
+        Err(refusal) => return refusal,
+    };
+    let head = &rows[0];
+    let opening = Opening::new(head[0], head[1], head[2], head[3]);
+    if let Some(number) = refused_opening(&opening) {
+        return Numbers::refuse(number, 1);
+    }
+    let mut taken: Vec<Answer> = Vec::new();
+    for (row, record) in rows[1..].iter().zip(2..) {
+        let (point, value) = (i128::from(row[0]), i128::from(row[1]));
+        let cause = match stand(&opening, &taken) {
+            Stand::Stop(_) => 5,
+            Stand::Call(called) if point != called => 6,
+            Stand::Call(_) if !(-10_000..=10_000).contains(&value) => 7,
+            Stand::Call(_) if taken.len() == 1 && taken[0].value * value > 0 => 8,
+            Stand::Call(_) => {
+                taken.push(Answer { point, value });
+                continue;
+            }
+        };
+        return Numbers::refuse(cause, record);
+    }
+    report_of(&opening, &taken)
+}
+
+/// The whole text and each record in turn: the numbers of each record, or refusal 10, 11 or 12.
+fn rows(text: &[u8]) -> Result<Vec<Vec<i32>>, Numbers> {
+    if text.len() > 4_096 {
+        return Err(Numbers::refuse(10, 0));
+    }
+    let mut rows = Vec::new();
+    for record in records(text) {
+        let number = rows.len() + 1;
+        // Record 1 is the opening, so that the 73rd answer record is record 74.
+        if number == SLOTS + 2 {
+            return Err(Numbers::refuse(11, number as u32));
+        }
+        let fields = if number == 1 { 4 } else { 2 };
+        match row(record, fields) {
+            Some(row) => rows.push(row),
+            None => return Err(Numbers::refuse(12, number as u32)),
+        }
+    }
+    match rows.len() {
+        0 => Err(Numbers::refuse(12, 1)),
+        _ => Ok(rows),
+    }
+}
+
+/// The records: each begins where a byte is left and runs through the next CR LF, or to the end.
+fn records(text: &[u8]) -> Vec<&[u8]> {
+    let mut list = Vec::new();
+    let mut rest = text;
+    while !rest.is_empty() {
+        let next = rest.windows(2).position(|pair| pair == b"\r\n");
+        let (record, after) = rest.split_at(next.map_or(rest.len(), |at| at + 2));
+        list.push(record);
+        rest = after;
+    }
+    list
+}
+
+/// The numbers of a record that ends with CR LF and has so many fields.
+fn row(record: &[u8], fields: usize) -> Option<Vec<i32>> {
+    let line = record.strip_suffix(b"\r\n")?;
+    let row: Option<Vec<i32>> = line.split(|&byte| byte == b',').map(number).collect();
+    row.filter(|row| row.len() == fields)
+}
+
+/// An optional minus and 1 to 5 digits.
+fn number(field: &[u8]) -> Option<i32> {
+    let (sign, digits) = match field.strip_prefix(b"-") {
+        Some(digits) => (-1, digits),
+        None => (1, field),
+    };
+    let form = (1..=5).contains(&digits.len()) && digits.iter().all(u8::is_ascii_digit);
+    let size = |sum, digit: &u8| sum * 10 + i32::from(digit - b'0');
+    form.then(|| sign * digits.iter().fold(0, size))
+}

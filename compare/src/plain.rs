@@ -1,0 +1,397 @@
+//! The same search as a Rust programmer would write it for speed: a running state, 64-bit
+//! arithmetic, nothing on the heap. It is the benchmark's baseline and the library's stand-in.
+
+use crate::types::{Numbers, Opening, Search, SLOTS};
+
+const HIGHEST_POINT: i32 = 20_000;
+const LARGEST_TOLERANCE: i32 = 5_000;
+const LARGEST_VALUE: i32 = 10_000;
+const LONGEST_TEXT: usize = 4_096;
+
+/// A point and its value.
+#[derive(Clone, Copy, PartialEq, Eq, Hash)]
+struct Sample {
+    x: i64,
+    f: i64,
+}
+
+const NONE: Sample = Sample { x: 0, f: 0 };
+
+/// A search on its way. `call` is the point called for, of no meaning once it has stopped.
+/// `last_is_b` tells which end was answered last.
+#[derive(Clone, Copy, PartialEq, Eq, Hash)]
+pub struct Walk {
+    a: Sample,
+    b: Sample,
+    c: Sample,
+    d: Sample,
+    second: i64,
+    tolerance: i64,
+    length: i64,
+    call: i64,
+    taken: u32,
+    streak: u32,
+    is_r: bool,
+    last_is_b: bool,
+    stopped: bool,
+}
+
+impl Walk {
+    /// The walk at its beginning, or the number of the refusal.
+    pub fn new(opening: &Opening) -> Result<Walk, u32> {
+        check(opening)?;
+        Ok(Walk {
+            a: NONE,
+            b: NONE,
+            c: NONE,
+            d: NONE,
+            second: i64::from(opening.second),
+            tolerance: i64::from(opening.tolerance),
+            length: 0,
+            call: i64::from(opening.first),
+            taken: 0,
+            streak: 0,
+            is_r: opening.method == 2,
+            last_is_b: false,
+            stopped: false,
+        })
+    }
+
+    /// The walk after these values, or the refusal.
+    fn along(opening: &Opening, values: &[i32]) -> Result<Walk, Numbers> {
+        let mut walk = Walk::new(opening).map_err(|number| Numbers::refuse(number, 0))?;
+        for &value in values {
+            walk.take(value)
+                .map_err(|number| Numbers::refuse(number, walk.taken))?;
+        }
+        Ok(walk)
+    }
+
+    pub fn stopped(&self) -> bool {
+        self.stopped
+    }
+
+    pub fn taken(&self) -> u32 {
+        self.taken
+    }
+
+    /// The bracket's length; 0 below two answers.
+    pub fn length(&self) -> i64 {
+        self.length
+    }
+
+    /// The steps since the last that halved.
+    pub fn streak(&self) -> u32 {
+        self.streak
+    }
+
+    /// The value at the better end.
+    pub fn better_value(&self) -> i64 {
+        self.b.f
+    }
+
+    pub fn report(&self) -> Numbers {
+        if self.stopped {
+            let (b, c) = (self.b.x, self.c.x);
+            Numbers::stop(b.min(c) as u32, b.max(c) as u32, b as u32, self.taken)
+        } else {
+            Numbers::next(self.call as u32, self.taken)
+        }
+    }
+
+    /// Takes the value at the point called for, or gives the refusal's number.
+    pub fn take(&mut self, value: i32) -> Result<(), u32> {
+        if self.stopped {
+            return Err(5);
+        }
+        if !(-LARGEST_VALUE..=LARGEST_VALUE).contains(&value) {
+            return Err(7);
+        }
+        let new = Sample {
+            x: self.call,
+            f: i64::from(value),
+        };
+        match self.taken {
+            0 => {
+                self.b = new;
+                self.call = self.second;
+            }
+            1 => {
+                if self.b.f * new.f > 0 {
+                    return Err(8);
+                }
+                self.begin(new);
+            }
+            _ => self.step(new),
+        }
+        self.taken += 1;
+        if self.taken >= 2 {
+            self.look();
+        }
+        Ok(())
+    }
+
+    /// Takes an answer that names its point, or gives the refusal's number.
+    fn take_at(&mut self, point: i32, value: i32) -> Result<(), u32> {
+        if !self.stopped && i64::from(point) != self.call {
+            return Err(6);
+        }
+        self.take(value)
+    }
+
+    /// The bracket of the first two answers, of which the first stands in `b`.
+    fn begin(&mut self, new: Sample) {
+        self.last_is_b = new.f.abs() <= self.b.f.abs();
+        if self.last_is_b {
+            self.c = self.b;
+            self.b = new;
+        } else {
+            self.c = new;
+        }
+        self.a = self.c;
+        self.length = (self.b.x - self.c.x).abs();
+    }
+
+    /// The bracket after a third answer or a later one.
+    fn step(&mut self, new: Sample) {
+        let (old_a, old_b, old_length) = (self.a, self.b, self.length);
+        let (last, other) = if self.last_is_b {
+            (self.b, self.c)
+        } else {
+            (self.c, self.b)
+        };
+        let with_last = last.f * new.f <= 0;
+        let partner = if with_last { last } else { other };
+        self.last_is_b = new.f.abs() <= partner.f.abs();
+        if self.last_is_b {
+            (self.a, self.b, self.c, self.d) = (old_b, new, partner, old_a);
+        } else {
+            self.d = if partner.x == old_b.x { old_a } else { old_b };
+            (self.a, self.b, self.c) = (new, partner, new);
+        }
+        self.length = (self.b.x - self.c.x).abs();
+        let halved = 2 * self.length <= old_length + 1;
+        self.streak = if halved { 0 } else { self.streak + 1 };
+    }
+
+    /// Sees whether the search has stopped, and if not, which point is called for.
+    fn look(&mut self) {
+        self.stopped = self.length <= 2 * self.tolerance;
+        if !self.stopped {
+            let d = self.displacement();
+            self.call = self.b.x + if self.c.x > self.b.x { d } else { -d };
+        }
+    }
+
+    /// The distance of the next point from b.
+    fn displacement(&self) -> i64 {
+        let half = self.length / 2;
+        let bisecting = if self.is_r { 4 } else { 3 };
+        if self.streak == bisecting {
+            return half;
+        }
+        let is_linear = if self.is_r {
+            self.taken == 2
+        } else {
+            self.streak < 2
+        };
+        let (mut num, mut den) = if is_linear {
+            self.linear()
+        } else {
+            self.rational()
+        };
+        if self.is_r && self.streak == 3 {
+            num *= 2;
+        }
+        if self.c.x > self.b.x {
+            num = -num;
+        }
+        if den < 0 {
+            (num, den) = (-num, -den);
+        }
+        if num < 0 || 2 * num > self.length * den {
+            half
+        } else if num <= self.tolerance * den {
+            self.tolerance
+        } else {
+            num / den
+        }
+    }
+
+    /// How far the linear estimate lies below b: numerator and denominator.
+    fn linear(&self) -> (i64, i64) {
+        let Walk { a, b, .. } = self;
+        (b.f * (b.x - a.x), b.f - a.f)
+    }
+
+    /// How far the rational estimate lies below b: numerator and denominator.
+    fn rational(&self) -> (i64, i64) {
+        let Walk { a, b, d, .. } = self;
+        let s = b.f * (a.f - d.f) * (b.x - d.x);
+        let q = s - a.f * (b.f - d.f) * (a.x - d.x);
+        (s * (b.x - a.x), q)
+    }
+}
+
+/// Refusals 1 to 4.
+fn check(opening: &Opening) -> Result<(), u32> {
+    let points = 0..=HIGHEST_POINT;
+    if !(0..=2).contains(&opening.method) {
+        Err(1)
+    } else if !points.contains(&opening.first) || !points.contains(&opening.second) {
+        Err(2)
+    } else if opening.first == opening.second {
+        Err(3)
+    } else if !(1..=LARGEST_TOLERANCE).contains(&opening.tolerance) {
+        Err(4)
+    } else {
+        Ok(())
+    }
+}
+
+/// A fresh search in the host's own; all zeros if the opening is refused.
+pub fn open(search: &mut Search, opening: &Opening) -> Numbers {
+    match Walk::new(opening) {
+        Ok(walk) => {
+            *search = Search::fresh(*opening);
+            walk.report()
+        }
+        Err(number) => {
+            *search = Search::ZERO;
+            Numbers::refuse(number, 0)
+        }
+    }
+}
+
+/// The walk of what a search holds, or the refusal.
+fn held(search: &Search) -> Result<Walk, Numbers> {
+    match search.slots.get(..search.count as usize) {
+        Some(list) => Walk::along(&search.opening, list),
+        None => Err(Numbers::refuse(9, 0)),
+    }
+}
+
+/// The report of a held search.
+pub fn report(search: &Search) -> Numbers {
+    match held(search) {
+        Ok(walk) => walk.report(),
+        Err(refusal) => refusal,
+    }
+}
+
+/// An answer entered into the host's own search.
+pub fn enter(search: &mut Search, point: i32, value: i32) -> Numbers {
+    let mut walk = match held(search) {
+        Ok(walk) => walk,
+        Err(refusal) => return refusal,
+    };
+    match walk.take_at(point, value) {
+        Ok(()) => {
+            search.slots[search.count as usize] = value;
+            search.count += 1;
+            walk.report()
+        }
+        Err(number) => Numbers::refuse(number, search.count),
+    }
+}
+
+/// The report of the search over a list of values.
+pub fn values(opening: &Opening, values: &[i32]) -> Numbers {
+    match Walk::along(opening, values) {
+        Ok(walk) => walk.report(),
+        Err(refusal) => refusal,
+    }
+}
+
+/// t and the most answers that may be needed.
+pub fn quote(opening: &Opening) -> Numbers {
+    match check(opening) {
+        Ok(()) => {
+            let width = opening.first.abs_diff(opening.second);
+            let whole = (width - 1) / (2 * opening.tolerance as u32);
+            let t = u32::BITS - whole.leading_zeros();
+            let steps = if opening.method == 2 { 5 } else { 4 };
+            Numbers::quote(t, 2 + steps * t)
+        }
+        Err(number) => Numbers::refuse(number, 0),
+    }
+}
+
+/// The program's report of a sheet. Places are record numbers.
+pub fn sheet(text: &[u8]) -> Numbers {
+    if text.len() > LONGEST_TEXT {
+        return Numbers::refuse(10, 0);
+    }
+    let mut answers = [(0, 0); SLOTS];
+    let (opening, count) = match read(text, &mut answers) {
+        Ok(read) => read,
+        Err(refusal) => return refusal,
+    };
+    let mut walk = match Walk::new(&opening) {
+        Ok(walk) => walk,
+        Err(number) => return Numbers::refuse(number, 1),
+    };
+    for &(point, value) in &answers[..count] {
+        if let Err(number) = walk.take_at(point, value) {
+            return Numbers::refuse(number, walk.taken + 2);
+        }
+    }
+    walk.report()
+}
+
+/// Reads the records: the opening and how many answers there are, or refusal 11 or 12.
+fn read(text: &[u8], answers: &mut [(i32, i32); SLOTS]) -> Result<(Opening, usize), Numbers> {
+    let mut reader = Reader { rest: text };
+    let opening = reader.opening().ok_or(Numbers::refuse(12, 1))?;
+    let mut count = 0;
+    while !reader.rest.is_empty() {
+        let record = count as u32 + 2;
+        let slot = answers.get_mut(count).ok_or(Numbers::refuse(11, record))?;
+        *slot = reader.answer().ok_or(Numbers::refuse(12, record))?;
+        count += 1;
+    }
+    Ok((opening, count))
+}
+
+/// Reads from the front of what is left. None where the form is wrong, and reading ends there.
+struct Reader<'a> {
+    rest: &'a [u8],
+}
+
+impl Reader<'_> {
+    fn opening(&mut self) -> Option<Opening> {
+        let method = self.number(b",")?;
+        let first = self.number(b",")?;
+        let second = self.number(b",")?;
+        let tolerance = self.number(b"\r\n")?;
+        Some(Opening::new(method, first, second, tolerance))
+    }
+
+    fn answer(&mut self) -> Option<(i32, i32)> {
+        let point = self.number(b",")?;
+        let value = self.number(b"\r\n")?;
+        Some((point, value))
+    }
+
+    /// A number and the mark that must follow it.
+    fn number(&mut self, mark: &[u8]) -> Option<i32> {
+        let (minus, rest) = match self.rest {
+            [b'-', rest @ ..] => (true, rest),
+            rest => (false, rest),
+        };
+        let mut size = 0;
+        let mut digits = 0;
+        while let Some(byte @ b'0'..=b'9') = rest.get(digits) {
+            if digits == 5 {
+                return None;
+            }
+            size = size * 10 + i32::from(byte - b'0');
+            digits += 1;
+        }
+        if digits == 0 {
+            return None;
+        }
+        self.rest = rest[digits..].strip_prefix(mark)?;
+        Some(if minus { -size } else { size })
+    }
+}

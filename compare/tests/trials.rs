@@ -1,0 +1,291 @@
+//! Document 01's worked trials, tried on the model, on the plain code and on the library (or its
+//! stand-in); then the model against the plain code on random cases.
+
+use compare::cases;
+use compare::model::{self, Book};
+use compare::plain;
+use compare::rng::Rng;
+use compare::sheets;
+use compare::types::{Numbers, Opening, Search, SLOTS};
+use compare::{beam, ffi};
+
+const M: Opening = Opening::new(1, 0, 100, 1);
+const R: Opening = Opening::new(2, 0, 100, 1);
+
+type Values = fn(&Opening, &[i32]) -> Numbers;
+type Sheet = fn(&[u8]) -> Numbers;
+
+/// Tries a list of values on all three, and on the book and a sheet if it is accepted.
+fn trial(opening: Opening, values: &[i32], report: &str) {
+    for search in [model::values, plain::values, ffi::values] as [Values; 3] {
+        assert_eq!(search(&opening, values).to_string(), report, "{values:?}");
+    }
+    if !report.starts_with("refuse") {
+        let book = Book::of(opening, values);
+        assert_eq!(book.report().to_string(), report);
+        sheet_trial(&sheets::write(&opening, &book.pairs()), report);
+    }
+}
+
+/// Tries a sheet on all three.
+fn sheet_trial(text: &[u8], report: &str) {
+    for reader in [model::sheet, plain::sheet, ffi::sheet] as [Sheet; 3] {
+        assert_eq!(reader(text).to_string(), report, "{}", sheets::show(text));
+    }
+}
+
+#[test]
+fn trials_of_m() {
+    trial(M, &[-50, 100], "next,33,2");
+    trial(M, &[-50, 100, -10], "next,41,3");
+    trial(M, &[-50, 100, -10, -2], "next,43,4");
+    trial(M, &[-50, 100, -10, -2, 1], "stop,41,43,43,5");
+    trial(M, &[-50, 100, -10, -2, -1], "next,71,5");
+    trial(M, &[-50, 100, -50], "next,66,3");
+    trial(M, &[0, 5, -3], "next,50,3");
+    trial(Opening::new(1, 0, 3, 1), &[-1, 1], "next,2,2");
+    trial(Opening::new(1, 0, 2, 1), &[-1, 1], "stop,0,2,2,2");
+}
+
+#[test]
+fn trials_of_r() {
+    trial(R, &[-50, 100, -10], "next,40,3");
+    trial(R, &[-50, 100, -10, -5, -1], "next,53,5");
+    trial(R, &[-50, 100, -10, -5, -1, -1], "next,76,6");
+}
+
+#[test]
+fn method_0_is_m() {
+    let house = Opening::new(0, 0, 100, 1);
+    trial(house, &[-50, 100, -10, -2, 1], "stop,41,43,43,5");
+    trial(house, &[-50, 100, -10, -2, -1], "next,71,5");
+}
+
+#[test]
+fn trials_refused() {
+    trial(M, &[5, 7], "refuse,8,1");
+    trial(M, &[-5, -7], "refuse,8,1");
+    trial(M, &[0, 7], "next,1,2");
+    trial(Opening::new(3, 0, 100, 1), &[], "refuse,1,0");
+    trial(Opening::new(0, 7, 7, 1), &[], "refuse,3,0");
+    trial(Opening::new(1, 0, 20_000, 1), &[], "next,0,0");
+    trial(Opening::new(1, 0, 20_001, 1), &[], "refuse,2,0");
+    trial(Opening::new(1, 0, 100, 5_000), &[], "next,0,0");
+    trial(Opening::new(1, 0, 100, 5_001), &[], "refuse,4,0");
+    trial(Opening::new(1, 0, 100, 0), &[], "refuse,4,0");
+    trial(M, &[-10_000], "next,100,1");
+    trial(M, &[-10_001], "refuse,7,0");
+    trial(M, &[-50, 100, -10, -2, 1, 10_001], "refuse,5,5");
+}
+
+#[test]
+fn the_sheet() {
+    let sheet = b"1,0,100,1\r\n0,-50\r\n100,100\r\n33,-10\r\n41,-2\r\n43,1\r\n";
+    sheet_trial(sheet, "stop,41,43,43,5");
+    let wrong = b"1,0,100,1\r\n0,-50\r\n100,100\r\n33,-10\r\n41,-2\r\n42,1\r\n";
+    sheet_trial(wrong, "refuse,6,6");
+}
+
+#[test]
+fn forms_of_sheets() {
+    sheet_trial(b"", "refuse,12,1");
+    sheet_trial(b"1,0,100,1", "refuse,12,1");
+    sheet_trial(b"01,-0,00100,00001\r\n-00000,-050\r\n", "next,100,1");
+    sheet_trial(b"1,0,100,000001\r\n", "refuse,12,1");
+    sheet_trial(b"1,0,100,1\r\n\r\n", "refuse,12,2");
+    sheet_trial(b"1,0,100,1\r\r\n", "refuse,12,1");
+    sheet_trial(b"1,0,100,1\n0,-50\r\n", "refuse,12,1");
+    sheet_trial(b"9,0,100,1\r\n0,-50\n", "refuse,12,2");
+    sheet_trial(b"9,0,100,1\r\n0,-50\r\n", "refuse,1,1");
+    sheet_trial(&[b'0'; 4_096], "refuse,12,1");
+    sheet_trial(&[b'0'; 4_097], "refuse,10,0");
+}
+
+#[test]
+fn numbers_of_records() {
+    let with = |n| [&b"9,0,0,0\r\n"[..], &b"0,0\r\n".repeat(n)].concat();
+    sheet_trial(&with(72), "refuse,1,1");
+    sheet_trial(&with(73), "refuse,11,74");
+    let last = |n, last: &[u8]| [&with(n), last].concat();
+    sheet_trial(&last(71, b"0"), "refuse,12,73");
+    sheet_trial(&last(72, b"0"), "refuse,11,74");
+}
+
+/// The bracket 0 to 13, cut in the middle at 7, leaves 0 to 7: that step halves, though 7 is more
+/// than half of 13. The next estimate is then linear (4), and not the rational one (6).
+#[test]
+fn astray_in_halving() {
+    trial(Opening::new(1, 0, 19, 1), &[-2, 1, 1], "next,7,3");
+    trial(Opening::new(1, 0, 19, 1), &[-2, 1, 1, 1], "next,4,4");
+}
+
+/// Doubling after rounding in R would give 52.
+#[test]
+fn astray_in_doubling() {
+    trial(R, &[-50, 100, -10, -5, -1], "next,53,5");
+}
+
+/// A zero is not kept as an end for good.
+#[test]
+fn astray_with_zero() {
+    let book = Book::of(M, &[0, 5, -3]);
+    let (better, other) = book.ends().expect("three answers make a bracket");
+    assert_eq!((better.point, other.point), (1, 100));
+}
+
+/// Rounding is towards b, wherever it lies.
+#[test]
+fn astray_in_rounding() {
+    trial(M, &[-50, 100], "next,33,2");
+    trial(M, &[100, -50], "next,67,2");
+    trial(Opening::new(1, 100, 0, 1), &[-50, 100], "next,67,2");
+    trial(Opening::new(1, 100, 0, 1), &[100, -50], "next,33,2");
+}
+
+/// The partner is the point just before where that one qualifies, though the other end may too.
+#[test]
+fn astray_in_pairing() {
+    // 0 at 33 would go with either end. 100 came just before, and the step from b is upwards.
+    trial(M, &[-50, 100, 0], "next,34,3");
+    // −3 at 1 would go with the 0 at 0 as well, and the search would stop.
+    trial(M, &[0, 5, -3], "next,50,3");
+}
+
+#[test]
+fn quotes() {
+    for quote in [model::quote, plain::quote, ffi::quote] {
+        let asked = |method, first, second, tolerance| {
+            quote(&Opening::new(method, first, second, tolerance))
+        };
+        assert_eq!(asked(1, 0, 20_000, 1), Numbers::quote(14, 58));
+        assert_eq!(asked(2, 20_000, 0, 1), Numbers::quote(14, 72));
+        assert_eq!(asked(0, 0, 2, 1), Numbers::quote(0, 2));
+        assert_eq!(asked(0, 0, 3, 1), Numbers::quote(1, 6));
+        assert_eq!(asked(2, 0, 3, 1), Numbers::quote(1, 7));
+        assert_eq!(asked(3, 0, 3, 1), Numbers::refuse(1, 0));
+    }
+}
+
+#[test]
+fn held_searches() {
+    type Enter = fn(&mut Search, i32, i32) -> Numbers;
+    let all = [
+        (
+            model::open as fn(&mut Search, &Opening) -> Numbers,
+            model::report as fn(&Search) -> Numbers,
+            model::enter as Enter,
+        ),
+        (plain::open, plain::report, plain::enter),
+        (ffi::open, ffi::report, ffi::enter),
+    ];
+    for (open, report, enter) in all {
+        let mut search = Search::ZERO;
+        assert_eq!(open(&mut search, &M), Numbers::next(0, 0));
+        assert_eq!(search, Search::fresh(M));
+        assert_eq!(enter(&mut search, 0, -50), Numbers::next(100, 1));
+        assert_eq!(enter(&mut search, 99, 50), Numbers::refuse(6, 1));
+        assert_eq!(enter(&mut search, 100, -50), Numbers::refuse(8, 1));
+        assert_eq!(enter(&mut search, 100, 100), Numbers::next(33, 2));
+        let mut slots = [0; SLOTS];
+        slots[..2].copy_from_slice(&[-50, 100]);
+        let held = Search {
+            opening: M,
+            count: 2,
+            slots,
+        };
+        assert_eq!(search, held);
+        assert_eq!(report(&search), Numbers::next(33, 2));
+        search.count = 73;
+        assert_eq!(report(&search), Numbers::refuse(9, 0));
+        assert_eq!(enter(&mut search, 33, 1), Numbers::refuse(9, 0));
+        assert_eq!(
+            open(&mut search, &Opening::new(1, 5, 5, 1)),
+            Numbers::refuse(3, 0)
+        );
+        assert_eq!(search, Search::ZERO);
+    }
+}
+
+/// Demand 3 on the model: brackets lie in one another, and their values are never on one side.
+#[test]
+fn brackets_of_the_book() {
+    let mut rng = Rng::new(3);
+    for _ in 0..500 {
+        let whole = cases::answered(cases::accepted_opening(&mut rng), &mut rng);
+        let mut book = Book::new(*whole.opening());
+        let mut before = (0, 20_000);
+        for answer in whole.answers() {
+            book.offer(answer.point as i32, answer.value as i32);
+            let Some((b, c)) = book.ends() else { continue };
+            let now = (b.point.min(c.point), b.point.max(c.point));
+            assert!(before.0 <= now.0 && now.1 <= before.1);
+            assert!(b.value * c.value <= 0);
+            assert!(b.value.abs() <= c.value.abs());
+            before = now;
+        }
+    }
+}
+
+/// The beam finds long searches, within the bounds.
+#[test]
+fn long_searches() {
+    for (method, found, bound) in [(1, 40, 58), (2, 50, 72)] {
+        let opening = Opening::new(method, 0, 20_000, 1);
+        let orders = beam::longest(&opening, 30, &mut Rng::new(7));
+        assert!((found..=bound).contains(&orders[0].len()));
+        let report = model::values(&opening, &orders[0]);
+        assert_eq!(report.kind, Numbers::STOP);
+        assert_eq!(report, plain::values(&opening, &orders[0]));
+    }
+}
+
+#[test]
+fn model_and_plain_on_lists() {
+    let mut rng = Rng::new(4);
+    for _ in 0..5_000 {
+        let (opening, values) = cases::any_list(&mut rng);
+        let (model, plain) = (
+            model::values(&opening, &values),
+            plain::values(&opening, &values),
+        );
+        assert_eq!(model, plain, "{opening:?} {values:?}");
+        assert_eq!(model::quote(&opening), plain::quote(&opening));
+    }
+}
+
+#[test]
+fn model_and_plain_on_searches() {
+    let mut rng = Rng::new(5);
+    for _ in 0..5_000 {
+        let mut one = cases::any_search(&mut rng);
+        let mut other = one;
+        let report = model::report(&one);
+        assert_eq!(report, plain::report(&other), "{one:?}");
+        let called = if report.kind == Numbers::NEXT {
+            report.a as i32
+        } else {
+            0
+        };
+        let value = cases::any_value(&mut rng);
+        let (model, plain) = (
+            model::enter(&mut one, called, value),
+            plain::enter(&mut other, called, value),
+        );
+        assert_eq!(model, plain, "{one:?}");
+        assert_eq!(one, other);
+    }
+}
+
+#[test]
+fn model_and_plain_on_sheets() {
+    let mut rng = Rng::new(6);
+    for _ in 0..10_000 {
+        let text = sheets::any_text(&mut rng);
+        assert_eq!(
+            model::sheet(&text),
+            plain::sheet(&text),
+            "{}",
+            sheets::show(&text)
+        );
+    }
+}
