@@ -14,7 +14,7 @@ use Rattle.journal.specs.Answers.{Answer}
 
 -- ---- the bytes
 
--- of 0 to 9
+-- of the digits 0 to 9: 48 to 57
 abbrev pub digit : ℕ → ℕ
 digit d = 48 + d
 
@@ -37,10 +37,13 @@ pub data Digits : List ℕ → ℕ → Type 0 where
   one : (d : ℕ) → d ≤ 9 → Digits (digit d ∷ []) d
   more : {s : List ℕ} {n : ℕ} → Digits s n → (d : ℕ) → d ≤ 9 → Digits (s ++ digit d ∷ []) (n * 10 + d)
 
+abbrev pub mostDigits : ℕ
+mostDigits = 5
+
 -- A number is an optional minus and 1 to 5 digits; leading zeros and −0 are taken. Fields are not quoted.
 pub data Numeral : List ℕ → ℤ → Type 0 where
-  plain : {s : List ℕ} {n : ℕ} → Digits s n → length s ≤ 5 → Numeral s (pos n)
-  negated : {s : List ℕ} {n : ℕ} → Digits s n → length s ≤ 5 → Numeral (minus ∷ s) (negℤ (pos n))
+  plain : {s : List ℕ} {n : ℕ} → Digits s n → length s ≤ mostDigits → Numeral s (pos n)
+  negated : {s : List ℕ} {n : ℕ} → Digits s n → length s ≤ mostDigits → Numeral (minus ∷ s) (negℤ (pos n))
 
 -- ---- records
 
@@ -94,7 +97,7 @@ no-answer = sheet unit zero hundred unit none
 one-answer : SheetText (bytes "1,0,100,1\r\n0,-50\r\n") upTo100 (answer (pos 0) (negℤ (pos 50)) ∷ [])
 one-answer = sheet unit zero hundred unit (next zero minus-fifty none)
 
--- in another spelling of x0, and with leading zeros
+-- with −0 and with leading zeros
 two-answers : SheetText (bytes "1,-0,100,1\r\n-0,-50\r\n100,00042\r\n") upTo100
     (answer (pos 0) (negℤ (pos 50)) ∷ answer (pos 100) (pos 42) ∷ [])
 two-answers = sheet unit minus-zero hundred unit (next minus-zero minus-fifty (next hundred leading-zeros none))
