@@ -22,14 +22,8 @@ use Rattle.rules.specs.RefusalsLaws.{Opened, opened, or-false, opposed-crossing
 use Rattle.rules.specs.RulesLaws.{Inside}
 use Rattle.rules.specs.Search.{isRefused, beginOf, stoppedAt, sameSideAt, takenOf, otherAt, enteredAt, answeredAt, offerOf, takeOf, progressOf, bracketReport, reportAt, reportOf, mostOf}
 use Rattle.rules.specs.SearchLaws.{Sound, sound-start, sound-advance, advanced, counts, at-most, before-stop}
-use Rattle.journal.specs.Answers.{Answer}
+use Rattle.journal.specs.Answers.{Answer, valueOf, values}
 use Rattle.journal.specs.Journal.{sampleOf, advancedBy, bracketOf, stopOf, pointOf, reportWith, journalReport, oneSide, refusalOf, takes, bookWith, toldOf, bracketsFrom, bracketsOf}
-
-abbrev pub valueOf : Answer → ℤ
-valueOf a = a .value
-
-abbrev pub pointAt : Answer → ℤ
-pointAt a = a .point
 
 -- ---- where a search of the book's values stands
 
@@ -155,20 +149,20 @@ next-taken o k a n =
     ∙ ap (λ (x : Sample). Progress.Bracketed (advanceOf k x)) (sym (sample-is a (nextOf o k) (n .called)))
 
 onward-folds : (o : Opening) (k : Bracket) (rest : List Answer) → Onward o k rest
-    → foldl (takeOf o) (Progress.Bracketed k) (map valueOf rest) ≡ Progress.Bracketed (advancedBy k rest)
+    → foldl (takeOf o) (Progress.Bracketed k) (values rest) ≡ Progress.Bracketed (advancedBy k rest)
 onward-folds o k [] w = refl
 onward-folds o k (a ∷ rest) w =
-    ap (λ (p : Progress). foldl (takeOf o) p (map valueOf rest)) (next-taken o k a (w .0))
+    ap (λ (p : Progress). foldl (takeOf o) p (values rest)) (next-taken o k a (w .0))
     ∙ onward-folds o (advanceOf k (sampleOf a)) rest (w .1)
 
-pub kept-progress : (o : Opening) (book : List Answer) → Accepted o → Kept o book → progressOf o (map valueOf book) ≡ stageOf book
+pub kept-progress : (o : Opening) (book : List Answer) → Accepted o → Kept o book → progressOf o (values book) ≡ stageOf book
 unfolding progressOf beginOf
 kept-progress o [] a k = simp (eq-eqb (openingRefusal o) 0 (a .accepted))
 kept-progress o (x ∷ []) a k = simp (eq-eqb (openingRefusal o) 0 (a .accepted)) (first-taken o x k)
 kept-progress o (x ∷ y ∷ rest) a k =
     simp (eq-eqb (openingRefusal o) 0 (a .accepted))
-    (ap (λ (p : Progress). foldl (takeOf o) (takeOf o p (y .value)) (map valueOf rest)) (first-taken o x (k .0))
-    ∙ ap (λ (p : Progress). foldl (takeOf o) p (map valueOf rest)) (second-taken o x y (k .0) (k .1) (k .2))
+    (ap (λ (p : Progress). foldl (takeOf o) (takeOf o p (y .value)) (values rest)) (first-taken o x (k .0))
+    ∙ ap (λ (p : Progress). foldl (takeOf o) p (values rest)) (second-taken o x y (k .0) (k .1) (k .2))
     ∙ onward-folds o (startOf (sampleOf x) (sampleOf y)) rest (k .3))
 
 -- ---- the book's report is that of its stage
@@ -178,47 +172,47 @@ unfolding bracketReport
 report-with o k n e = rw (← e)
 
 module _ (o : Opening) (accepted : Accepted o) (book : List Answer) (kept : Kept o book) where
-  leads : progressOf o (map valueOf book) ≡ stageOf book
+  leads : progressOf o (values book) ≡ stageOf book
   leads = kept-progress o book accepted kept
 
   pub report-stage : journalReport o book ≡ reportAt o (stageOf book)
   unfolding journalReport reportAt pointOf
   report-stage = go book refl leads
     where
-      go : (b : List Answer) → book ≡ b → progressOf o (map valueOf book) ≡ stageOf b → journalReport o b ≡ reportAt o (stageOf b)
+      go : (b : List Answer) → book ≡ b → progressOf o (values book) ≡ stageOf b → journalReport o b ≡ reportAt o (stageOf b)
       go [] e f = refl
       go (x ∷ []) e f = refl
       go (x ∷ y ∷ rest) e f =
           report-with o (bracketOf x y rest) (length (x ∷ y ∷ rest))
-          (counts o accepted (map valueOf book) (bracketOf x y rest) f ∙ length-map book valueOf ∙ ap length e)
+          (counts o accepted (values book) (bracketOf x y rest) f ∙ length-map book valueOf ∙ ap length e)
 
   -- over the list of its values the search gives the book's report
-  pub report-list : reportOf o (map valueOf book) ≡ journalReport o book
+  pub report-list : reportOf o (values book) ≡ journalReport o book
   unfolding reportOf
   report-list = ap (reportAt o) leads ∙ sym report-stage
 
   -- ---- the bound
 
   -- as many values as answers
-  as-many : length (map valueOf book) ≡ length book
+  as-many : length (values book) ≡ length book
   as-many = length-map book valueOf
 
   pub at-most-answers : length book ≤ mostOf o
   at-most-answers = go book refl leads
     where
-      go : (b : List Answer) → book ≡ b → progressOf o (map valueOf book) ≡ stageOf b → length book ≤ mostOf o
+      go : (b : List Answer) → book ≡ b → progressOf o (values book) ≡ stageOf b → length book ≤ mostOf o
       go [] e f = omega (arith, ap length e)
       go (x ∷ []) e f = omega (arith, ap length e)
-      go (x ∷ y ∷ rest) e f = omega (arith, as-many, at-most o accepted (map valueOf book) (bracketOf x y rest) f)
+      go (x ∷ y ∷ rest) e f = omega (arith, as-many, at-most o accepted (values book) (bracketOf x y rest) f)
 
   pub fewer-answers : stopOf o book ≡ false → length book < mostOf o
   unfolding stopOf
   fewer-answers = go book refl leads
     where
-      go : (b : List Answer) → book ≡ b → progressOf o (map valueOf book) ≡ stageOf b → stopOf o b ≡ false → length book < mostOf o
+      go : (b : List Answer) → book ≡ b → progressOf o (values book) ≡ stageOf b → stopOf o b ≡ false → length book < mostOf o
       go [] e f s = omega (arith, ap length e)
       go (x ∷ []) e f s = omega (arith, ap length e)
-      go (x ∷ y ∷ rest) e f s = omega (arith, as-many, before-stop o accepted (map valueOf book) (bracketOf x y rest) f s)
+      go (x ∷ y ∷ rest) e f s = omega (arith, as-many, before-stop o accepted (values book) (bracketOf x y rest) f s)
 
 -- ---- the brackets: each lies within the one before, and its values are never both above or both below target
 
@@ -233,7 +227,7 @@ Opposed (k ∷ ks) = (sameSide (k .better .value) (k .other .value) ≡ false) �
 
 module _ (o : Opening) (op : Opened o) where
   -- the bracket after an answer
-  step-sound : (k : Bracket) (a : Answer) → Sound o k → Next o k a → Sound o (advanceOf k (sampleOf a))
+  pub step-sound : (k : Bracket) (a : Answer) → Sound o k → Next o k a → Sound o (advanceOf k (sampleOf a))
   step-sound k a s n =
       subst (λ (x : Sample). Sound o (advanceOf k x)) (sym (sample-is a (nextOf o k) (n .called))) (sound-advance o k (a .value) op s (n .going) (n .ranged))
 
@@ -252,7 +246,7 @@ module _ (o : Opening) (op : Opened o) where
   onward-opposed k (a ∷ rest) s w =
       (opposed-crossing _ _ (s .held .opposite), onward-opposed (advanceOf k (sampleOf a)) rest (step-sound k a s (w .0)) (w .1))
 
-  start-sound : (a b : Answer) → At (firstOf o) a → At (secondOf o) b → sameSide (a .value) (b .value) ≡ false → Sound o (startOf (sampleOf a) (sampleOf b))
+  pub start-sound : (a b : Answer) → At (firstOf o) a → At (secondOf o) b → sameSide (a .value) (b .value) ≡ false → Sound o (startOf (sampleOf a) (sampleOf b))
   start-sound a b p q d =
       subst₂ (λ (s t : Sample). Sound o (startOf s t)) (sym (sample-is a (firstOf o) (p .called))) (sym (sample-is b (secondOf o) (q .called)))
       (sound-start o (a .value) (b .value) op (p .ranged) (q .ranged) d)

@@ -21,10 +21,12 @@ use Rattle.held.specs.declared.Search.{Search}
 use Rattle.held.specs.declared.Entered.{Entered}
 use Rattle.held.specs.Held.{freshOf, enterOf}
 use Rattle.sheet.specs.Sheet.{sheetOf}
-use Rattle.journal.specs.Answers.{Answer}
+use Rattle.journal.specs.Answers.{Answer, values}
 use Rattle.journal.specs.Journal.{stopOf, journalReport, bookWith, toldOf, bookAfter, toldAll, bracketsOf}
-use Rattle.journal.specs.JournalLaws.{valueOf, Kept, report-list, at-most-answers, fewer-answers, Nested, Opposed, kept-nested, kept-opposed}
-use Rattle.journal.specs.RunLaws.{holding, kept-with, call-answers, report-sheet}
+use Rattle.journal.specs.JournalLaws.{Kept, report-list, at-most-answers, fewer-answers, Nested, Opposed, kept-nested, kept-opposed}
+use Rattle.journal.specs.Spelling.{SheetText}
+use Rattle.journal.specs.SpellingLaws.{spelled-entries, has-text}
+use Rattle.journal.specs.RunLaws.{holding, book-fits, kept-with, call-answers, report-sheet, short-opening, short-book}
 
 -- ---- a run of calls
 
@@ -77,7 +79,10 @@ pub record Run (o : Opening) (calls : List Call) : Type 0 where
   -- and its two values are never both above or both below target
   pub opposed : Opposed (bracketsOf (bookOf o calls))
   -- at every place: the search over the list of the book's values gives the book's report, for n = 0 too
-  pub over-list : (i : ℕ) → reportOf o (map valueOf (bookAt o calls i)) ≡ journalReport o (bookAt o calls i)
+  pub over-list : (i : ℕ) → reportOf o (values (bookAt o calls i)) ≡ journalReport o (bookAt o calls i)
+  -- so does the reader, for every text that spells the opening and the book's answers; and there is such a text
+  pub over-sheet : (i : ℕ) (text : List ℕ) → SheetText text o (bookAt o calls i) → sheetOf text .report ≡ journalReport o (bookAt o calls i)
+  pub sheet : (i : ℕ) → (text : List ℕ) × SheetText text o (bookAt o calls i)
   -- the t told for the opening is demand 3's t, and the most answers told are 2 + (m + 1) t
   pub quoted : quoteOf o ≡ Quote.Quoted (tOf o) (bound o)
   pub least : Least (λ t. distanceOf o ≤ natAbs (o .tolerance) * 2 ^ (t + 1)) (tOf o)
@@ -112,6 +117,9 @@ module _ (o : Opening) (accepted : Accepted o) where
       ap (λ (r : Entered). searchAfter (r .search) calls) (one-call book k c)
       ∙ search-from (bookWith o book (offered c)) calls (kept-with o accepted book k (offered c))
 
+  sheet-report : (book : List Answer) → Kept o book → (text : List ℕ) → SheetText text o book → sheetOf text .report ≡ journalReport o book
+  sheet-report book k text t = report-sheet o accepted book k text (spelled-entries t (book-fits o accepted book k))
+
   pub run : (calls : List Call) → Run o calls
   unfolding quoteOf
   run calls =
@@ -123,6 +131,8 @@ module _ (o : Opening) (accepted : Accepted o) where
         nested = kept-nested o (opened o accepted) (bookOf o calls) (kept-at calls);
         opposed = kept-opposed o (opened o accepted) (bookOf o calls) (kept-at calls);
         over-list = λ i. report-list o accepted (bookAt o calls i) (kept-at (take i calls));
+        over-sheet = λ i text t. sheet-report (bookAt o calls i) (kept-at (take i calls)) text t;
+        sheet = λ i. has-text o (bookAt o calls i) (short-opening o (opened o accepted)) (short-book o (opened o accepted) (bookAt o calls i) (kept-at (take i calls)));
         quoted = simp (eq-eqb (openingRefusal o) 0 (accepted .accepted));
         least = t-least o (opened o accepted);
       }

@@ -18,11 +18,11 @@ use Rattle.rules.specs.declared.Sample.{Sample}
 use Rattle.rules.specs.declared.Bracket.{Bracket}
 use Rattle.rules.specs.declared.Progress.{Progress}
 use Rattle.rules.specs.declared.Report.{Report}
-use Rattle.rules.specs.Rules.{slots, firstOf, secondOf, startOf, stoppedOf, nextOf, advanceOf}
+use Rattle.rules.specs.Rules.{highest, slots, firstOf, secondOf, startOf, stoppedOf, nextOf, advanceOf}
 use Rattle.rules.specs.Refusals.{answerRefusal, tooLarge, Accepted}
-use Rattle.rules.specs.RefusalsLaws.{opened}
+use Rattle.rules.specs.RefusalsLaws.{Opened, opened, Ranged}
 use Rattle.rules.specs.Search.{isRefused, stoppedAt, sameSideAt, takenOf, otherAt, enteredAt, answeredAt, offerOf, takeOf, progressOf, reportAt, mostOf}
-use Rattle.rules.specs.SearchLaws.{counts, most-slots}
+use Rattle.rules.specs.SearchLaws.{Sound, ahead, counts, most-slots}
 use Rattle.held.specs.declared.Search.{Search}
 use Rattle.held.specs.declared.Entered.{Entered}
 use Rattle.held.specs.Held.{valuesOf, standingOf, withValue, triedOf, enterOf}
@@ -31,9 +31,11 @@ use Rattle.records.specs.declared.Entries.{Entries}
 use Rattle.records.specs.Entries.{filled, entriesOf}
 use Rattle.sheet.specs.Sheet.{answersOf, leadsTo, settledAs, sheetOf}
 use Rattle.sheet.specs.SheetLaws.{outcome-accepted, sheet-read}
-use Rattle.journal.specs.Answers.{Answer}
+use Rattle.journal.specs.Answers.{Answer, valueOf, points, values}
+use Rattle.journal.specs.Answers as Answers
 use Rattle.journal.specs.Journal.{sampleOf, advancedBy, bracketOf, stopOf, pointOf, journalReport, refusalOf, takes, bookWith, toldOf}
-use Rattle.journal.specs.JournalLaws.{valueOf, pointAt, stageOf, refusal-stage, Onward, Next, At, Kept, Fine, fine, kept-more, first-taken, second-taken, next-taken, kept-progress, sample-is, report-stage, at-most-answers}
+use Rattle.journal.specs.SpellingLaws.{Short, ShortOpening, ShortAnswers}
+use Rattle.journal.specs.JournalLaws.{stageOf, refusal-stage, Onward, Next, At, Kept, Fine, fine, kept-more, first-taken, second-taken, next-taken, kept-progress, sample-is, report-stage, at-most-answers, step-sound, start-sound}
 
 -- ---- the search that holds a book's values
 
@@ -42,7 +44,7 @@ abbrev pub slotsOf : List ℤ → List ℤ
 slotsOf vs = vs ++ replicate (slots - length vs) (pos 0)
 
 abbrev pub holding : Opening → List Answer → Search
-holding o book = record { opening = o; count = length book; slots = slotsOf (map valueOf book) }
+holding o book = record { opening = o; count = length book; slots = slotsOf (values book) }
 
 -- ---- the book's stage with one answer more
 
@@ -70,27 +72,27 @@ offer-stage o [] other v = refl
 offer-stage o (x ∷ []) other v = refl
 offer-stage o (x ∷ y ∷ rest) other v = refl
 
-map-more : (book : List Answer) (a : Answer) → map valueOf (book ++ (a ∷ [])) ≡ map valueOf book ++ (a .value ∷ [])
+map-more : (book : List Answer) (a : Answer) → values (book ++ (a ∷ [])) ≡ values book ++ (a .value ∷ [])
 map-more [] a = refl
 map-more (x ∷ book) a = ap (λ (vs : List ℤ). x .value ∷ vs) (map-more book a)
 
 module _ (o : Opening) (accepted : Accepted o) where
   module _ (book : List Answer) (kept : Kept o book) where
-    few : length book ≤ slots
-    few = omega (arith, at-most-answers o accepted book kept, most-slots o (opened o accepted))
+    pub book-fits : length book ≤ slots
+    book-fits = omega (arith, at-most-answers o accepted book kept, most-slots o (opened o accepted))
 
-    as-many : length (map valueOf book) ≡ length book
+    as-many : length (values book) ≡ length book
     as-many = length-map book valueOf
 
-    pub slots-full : length (slotsOf (map valueOf book)) ≡ slots
-    slots-full = simp (length-append, length-replicate) (omega (arith, few, as-many))
+    pub slots-full : length (slotsOf (values book)) ≡ slots
+    slots-full = simp (length-append, length-replicate) (omega (arith, book-fits, as-many))
 
-    pub values-held : valuesOf (holding o book) ≡ map valueOf book
-    values-held = take-at (map valueOf book) _ (length book) as-many
+    pub values-held : valuesOf (holding o book) ≡ values book
+    values-held = take-at (values book) _ (length book) as-many
 
     pub standing-held : standingOf (holding o book) ≡ stageOf book
     unfolding standingOf
-    standing-held = simp (le-ltb slots (length book) few) (ap (progressOf o) values-held ∙ kept-progress o book accepted kept)
+    standing-held = simp (le-ltb slots (length book) book-fits) (ap (progressOf o) values-held ∙ kept-progress o book accepted kept)
 
     taken-stage : takenOf (stageOf book) ≡ length book
     taken-stage = go book refl
@@ -99,7 +101,7 @@ module _ (o : Opening) (accepted : Accepted o) where
         go [] e = sym (ap length e)
         go (x ∷ []) e = sym (ap length e)
         go (x ∷ y ∷ rest) e =
-            counts o accepted (map valueOf book) (bracketOf x y rest) (kept-progress o book accepted kept ∙ ap stageOf e) ∙ as-many
+            counts o accepted (values book) (bracketOf x y rest) (kept-progress o book accepted kept ∙ ap stageOf e) ∙ as-many
 
     -- where the search comes to
     tried-held : (a : Answer)
@@ -123,10 +125,10 @@ slots-set vs v h =
 
 search-more : (o : Opening) (book : List Answer) (a : Answer) → length book < slots → holding o (book ++ (a ∷ [])) ≡ withValue (holding o book) (a .value)
 search-more o book a h =
-    let n : length (map valueOf book) ≡ length book = length-map book valueOf in
+    let n : length (values book) ≡ length book = length-map book valueOf in
     let c : length (book ++ (a ∷ [])) ≡ length book + 1 = length-append book (a ∷ []) in
-    let s : slotsOf (map valueOf (book ++ (a ∷ []))) ≡ set (slotsOf (map valueOf book)) (length book) (a .value) =
-    ap slotsOf (map-more book a) ∙ slots-set (map valueOf book) (a .value) (omega arith) ∙ ap (λ (i : ℕ). set (slotsOf (map valueOf book)) i (a .value)) n in
+    let s : slotsOf (values (book ++ (a ∷ []))) ≡ set (slotsOf (values book)) (length book) (a .value) =
+    ap slotsOf (map-more book a) ∙ slots-set (values book) (a .value) (omega arith) ∙ ap (λ (i : ℕ). set (slotsOf (values book)) i (a .value)) n in
     ap₂ (λ (i : ℕ) (l : List ℤ). record { opening = o; count = i; slots = l }) c s
 
 -- ---- one call
@@ -158,7 +160,7 @@ module _ (o : Opening) (accepted : Accepted o) (book : List Answer) (kept : Kept
           (slots-full o accepted book kept)
           (stage-fine (book ++ (a ∷ [])))
           (holding o (book ++ (a ∷ [])))
-          (search-more o book a (omega (arith, few o accepted (book ++ (a ∷ [])) m, length-append book (a ∷ [])))))
+          (search-more o book a (omega (arith, book-fits o accepted (book ++ (a ∷ [])) m, length-append book (a ∷ [])))))
       go false e t =
           sym
           (enter-refused (holding o book) (a .point) (a .value) (Progress.Refused (refusalOf o book a) (length book)) (Report.Refused (refusalOf o book a) (length book)) (sym t) refl refl)
@@ -179,22 +181,22 @@ one-answer : (o : Opening) (p : Progress) (a : Answer) (q : Progress) → otherA
 one-answer o p a q e f = called-is o p a e ∙ f
 
 onward-answers : (o : Opening) (k : Bracket) (rest : List Answer) → Onward o k rest
-    → answersOf o (Progress.Bracketed k) (map pointAt rest) (map valueOf rest) ≡ Progress.Bracketed (advancedBy k rest)
+    → answersOf o (Progress.Bracketed k) (points rest) (values rest) ≡ Progress.Bracketed (advancedBy k rest)
 unfolding answersOf
 onward-answers o k [] w = refl
 onward-answers o k (a ∷ rest) w =
     let e : otherAt o (Progress.Bracketed k) (a .point) ≡ false = simp (w .0 .going) (same-point (a .point) (nextOf o k) (w .0 .called)) in
-    ap (λ (p : Progress). answersOf o p (map pointAt rest) (map valueOf rest)) (one-answer o (Progress.Bracketed k) a _ e (next-taken o k a (w .0)))
+    ap (λ (p : Progress). answersOf o p (points rest) (values rest)) (one-answer o (Progress.Bracketed k) a _ e (next-taken o k a (w .0)))
     ∙ onward-answers o (advanceOf k (sampleOf a)) rest (w .1)
 
-answers-kept : (o : Opening) (book : List Answer) → Kept o book → answersOf o Progress.Begun (map pointAt book) (map valueOf book) ≡ stageOf book
+answers-kept : (o : Opening) (book : List Answer) → Kept o book → answersOf o Progress.Begun (points book) (values book) ≡ stageOf book
 unfolding answersOf
 answers-kept o [] k = refl
 answers-kept o (x ∷ []) k = one-answer o Progress.Begun x _ (same-point (x .point) (firstOf o) (k .called)) (first-taken o x k)
 answers-kept o (x ∷ y ∷ rest) k =
-    ap (λ (p : Progress). answersOf o p (map pointAt (y ∷ rest)) (map valueOf (y ∷ rest)))
+    ap (λ (p : Progress). answersOf o p (points (y ∷ rest)) (values (y ∷ rest)))
     (one-answer o Progress.Begun x _ (same-point (x .point) (firstOf o) (k .0 .called)) (first-taken o x (k .0)))
-    ∙ ap (λ (p : Progress). answersOf o p (map pointAt rest) (map valueOf rest))
+    ∙ ap (λ (p : Progress). answersOf o p (points rest) (values rest))
     (one-answer o (Progress.First (x .value)) y _ (same-point (y .point) (secondOf o) (k .1 .called)) (second-taken o x y (k .0) (k .1) (k .2)))
     ∙ onward-answers o (startOf (sampleOf x) (sampleOf y)) rest (k .3)
 
@@ -205,12 +207,12 @@ settled-stage e (x ∷ y ∷ rest) = refl
 
 module _ (o : Opening) (accepted : Accepted o) (book : List Answer) (kept : Kept o book) where
   abbrev entered : Entries
-  entered = filled o (map pointAt book) (map valueOf book)
+  entered = filled o (points book) (values book)
 
   leads-to : leadsTo entered ≡ stageOf book
   leads-to =
-      let m : length (map valueOf book) ≡ length (map pointAt book) = length-map book valueOf ∙ sym (length-map book pointAt) in
-      ap₂ (answersOf o Progress.Begun) (take-at (map pointAt book) _ _ refl) (take-at (map valueOf book) _ _ m)
+      let m : length (values book) ≡ length (points book) = length-map book valueOf ∙ sym (length-map book Answers.pointOf) in
+      ap₂ (answersOf o Progress.Begun) (take-at (points book) _ _ refl) (take-at (values book) _ _ m)
       ∙ answers-kept o book kept
 
   pub report-sheet : (text : List ℕ) → entriesOf text ≡ entered → sheetOf text .report ≡ journalReport o book
@@ -219,3 +221,42 @@ module _ (o : Opening) (accepted : Accepted o) (book : List Answer) (kept : Kept
       (sym (sheet-read text entered (sym e) refl) ∙ sym (outcome-accepted entered (accepted .accepted)) ∙ ap (settledAs entered) leads-to)
       ∙ settled-stage entered book
       ∙ sym (report-stage o accepted book kept)
+
+-- ---- the numbers of a book are short enough to be spelled
+
+short-range : {low high : ℕ} {z : ℤ} → Ranged low high z → high ≤ 99999 → Short z
+short-range r h = omega (arith, r .most)
+
+pub short-opening : (o : Opening) → Opened o → ShortOpening o
+short-opening o op =
+    record {
+      method = short-range (op .method) (omega arith);
+      first = short-range (op .first) (omega arith);
+      second = short-range (op .second) (omega arith);
+      tolerance = short-range (op .tolerance) (omega arith);
+    }
+
+short-point : (z : ℤ) (n : ℕ) → z ≡ pos n → n ≤ highest → Short z
+short-point z n e h = rw e (omega arith)
+
+module _ (o : Opening) (op : Opened o) where
+  short-onward : (k : Bracket) (rest : List Answer) → Sound o k → Onward o k rest → ShortAnswers rest
+  short-onward k [] s w = tt
+  short-onward k (a ∷ rest) s w =
+      let n = w .0 in
+      let p = ahead o k (pos 0) op s (n .going) in (
+        short-point (a .point) (nextOf o k) (n .called) (omega (arith, p .below, s .limits .better .point, s .limits .other .point)),
+        omega (arith, n .ranged),
+        short-onward (advanceOf k (sampleOf a)) rest (step-sound o op k a s n) (w .1),
+      )
+
+  short-at : (x : ℕ) (a : Answer) → x ≤ highest → At x a → Short (a .point) × Short (a .value)
+  short-at x a h p = (short-point (a .point) x (p .called) h, omega (arith, p .ranged))
+
+  pub short-book : (book : List Answer) → Kept o book → ShortAnswers book
+  short-book [] k = tt
+  short-book (a ∷ []) k = let p = short-at (firstOf o) a (op .first .most) k in (p .0, p .1, tt)
+  short-book (a ∷ b ∷ rest) k =
+      let p = short-at (firstOf o) a (op .first .most) (k .0) in
+      let q = short-at (secondOf o) b (op .second .most) (k .1) in
+      (p .0, p .1, (q .0, q .1, short-onward (startOf (sampleOf a) (sampleOf b)) rest (start-sound o op a b (k .0) (k .1) (k .2)) (k .3)))
