@@ -1,7 +1,9 @@
--- A report and a quote as numbers, for a host that is not written in Rattle: the kind, then the numbers in document 01's order, and 0
+-- An opening from numbers, and a report and a quote as numbers, for a host that is not written in Rattle: the kind, then the numbers in document 01's order, and 0
 -- for those that are not used.
 -- Assumes nothing.
 use Prim.Native.Nat.{ℕ}
+use lib.IntN.{ℤ}
+use Rattle.rules.specs.declared.Opening.{Opening}
 use Rattle.rules.specs.declared.Report.{Report}
 use Rattle.rules.specs.declared.Quote.{Quote}
 use Rattle.held.specs.declared.Entered.{Entered}
@@ -21,6 +23,12 @@ stopped = 2
 -- a refusal
 abbrev pub refused : ℕ
 refused = 3
+
+-- ---- what is given
+
+-- an opening of four numbers
+abbrev pub openingOf : (method first second tolerance : ℤ) → Opening
+openingOf m x0 x1 τ = record { method = m; first = x0; second = x1; tolerance = τ }
 
 -- ---- what is told
 

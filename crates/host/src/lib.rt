@@ -98,17 +98,23 @@ fn in_numbers(e: Entered) -> Stepped
     }
 }
 
-// A fresh search.
-fn step_open(method: i32, first: i32, second: i32, tolerance: i32) -> Stepped
-    ensures { λ r. ⌜ r ≡ inNumbers (openOf (record { method = method; first = first; second = second; tolerance = tolerance })) ⌝ }
+// An opening of four numbers.
+fn opening_of(method: i32, first: i32, second: i32, tolerance: i32) -> Opening
+    ensures { λ r. ⌜ r ≡ openingOf method first second tolerance ⌝ }
 {
-    let opening = Opening {
+    Opening {
         method,
         first,
         second,
         tolerance,
-    };
-    in_numbers(Search::fresh(opening))
+    }
+}
+
+// A fresh search.
+fn step_open(method: i32, first: i32, second: i32, tolerance: i32) -> Stepped
+    ensures { λ r. ⌜ r ≡ inNumbers (openOf (openingOf method first second tolerance)) ⌝ }
+{
+    in_numbers(Search::fresh(opening_of(method, first, second, tolerance)))
 }
 
 // An answer entered or refused.
@@ -136,7 +142,7 @@ pub extern "C" fn search_open(
     second: i32,
     tolerance: i32,
 ) -> Numbers
-    ensures { λ r. ⌜ (r ≡ numbersOf ((openOf (record { method = method; first = first; second = second; tolerance = tolerance })) .report)) × (now (search .exit) ≡ (openOf (record { method = method; first = first; second = second; tolerance = tolerance })) .search) ⌝ }
+    ensures { λ r. ⌜ (r ≡ numbersOf ((openOf (openingOf method first second tolerance)) .report)) × (now (search .exit) ≡ (openOf (openingOf method first second tolerance)) .search) ⌝ }
 {
     let e = step_open(method, first, second, tolerance);
     *search = e.search;
@@ -170,29 +176,17 @@ pub extern "C" fn search_values(
     tolerance: i32,
     values: &[i32],
 ) -> Numbers
-    ensures { λ r. ⌜ r ≡ numbersOf (reportOf (record { method = method; first = first; second = second; tolerance = tolerance }) (now (values .entry))) ⌝ }
+    ensures { λ r. ⌜ r ≡ numbersOf (reportOf (openingOf method first second tolerance) (now (values .entry))) ⌝ }
 {
-    let opening = Opening {
-        method,
-        first,
-        second,
-        tolerance,
-    };
-    report_numbers(search::report_on(opening, values))
+    report_numbers(search::report_on(opening_of(method, first, second, tolerance), values))
 }
 
 // t and the most answers that an opening may need.
 #[no_mangle]
 pub extern "C" fn search_quote(method: i32, first: i32, second: i32, tolerance: i32) -> Numbers
-    ensures { λ r. ⌜ r ≡ quoteNumbers (quoteOf (record { method = method; first = first; second = second; tolerance = tolerance })) ⌝ }
+    ensures { λ r. ⌜ r ≡ quoteNumbers (quoteOf (openingOf method first second tolerance)) ⌝ }
 {
-    let opening = Opening {
-        method,
-        first,
-        second,
-        tolerance,
-    };
-    quote_numbers(search::quote(opening))
+    quote_numbers(search::quote(opening_of(method, first, second, tolerance)))
 }
 
 // The outcome of a trial sheet; the place of a refusal is a record.

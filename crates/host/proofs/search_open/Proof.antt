@@ -42,7 +42,7 @@ use denote.Triple.Walked.{says, Stays, stay-ref, stay-none, walkOf, AllGo, goes-
 use denote.Triple.Clauses.{ensured, lasts}
 use denote.Exit.{yes}
 use Rattle.held.specs.Held.{openOf}
-use Rattle.host.specs.Numbers.{inNumbers}
+use Rattle.host.specs.Numbers.{openingOf, inNumbers}
 use Rattle.held.specs.declared.Search.{Search}
 use Rattle.host.specs.declared.Numbers.{Numbers}
 use Rattle.host.specs.declared.Stepped.{Stepped}
@@ -86,7 +86,7 @@ is-numbers r vs is = LL.owed E.the-type E′.the-laws r vs is .0
 
 -- the fresh search of four numbers, with its report as numbers
 abbrev opened : (m a z t : ℤ) → Stepped
-opened m a z t = inNumbers (openOf (record { method = m; first = a; second = z; tolerance = t }))
+opened m a z t = inNumbers (openOf (openingOf m a z t))
 
 -- the contract that the proof cites, and of its `ensured` the clause alone: it has no `&mut`, so what is said of last values is dropped
 module _ {M : Type 1} (𝓤 : URA M) (H : Heap 𝓤) (A : Atoms 𝓤) (at-mem : Memory → SProp 𝓤) (run : Routine → Fun 𝓤) where

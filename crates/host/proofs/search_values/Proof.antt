@@ -7,6 +7,9 @@ use borrow.Author.Needs.{needs}
 use Rattle.host.proofs.search_values.Statement.{statement}
 use Rattle.host.proofs.search_values.Tie as tie
 
+opening-of-requires : tie.Need-opening-of-requires
+opening-of-requires c κs = search needs
+
 report-on-requires : tie.Need-report-on-requires
 report-on-requires c κs = search needs
 
@@ -15,9 +18,9 @@ report-numbers-requires c κs = search needs
 
 returns : tie.Need-returns
 returns c =
-    let s = c .before .before in
+    let s = c .before .before .before in
     c .report-numbers .ensures
-    ∙ ap numbersOf (rw (toZ-ofZ (s .fits .method), toZ-ofZ (s .fits .first), toZ-ofZ (s .fits .second), toZ-ofZ (s .fits .tolerance)) at (c .before .report-on .ensures))
+    ∙ ap numbersOf (rw (c .before .before .opening-of .ensures, toZ-ofZ (s .fits .method), toZ-ofZ (s .fits .first), toZ-ofZ (s .fits .second), toZ-ofZ (s .fits .tolerance)) at (c .before .report-on .ensures))
 
 pub search-values-spec : {M : Type 1} → statement M
-search-values-spec = tie.close (tie.spec report-on-requires report-numbers-requires returns)
+search-values-spec = tie.close (tie.spec opening-of-requires report-on-requires report-numbers-requires returns)
