@@ -4,7 +4,7 @@ ghost use mathlib.Core.Path.{_≡_};
 ghost use Rattle.rules.specs.Search.{reportOf, quoteOf};
 ghost use Rattle.held.specs.Held.{openOf, heldReport, enterOf};
 ghost use Rattle.sheet.specs.Sheet.{sheetOf};
-ghost use Rattle.host.specs.Numbers.{numbersOf, quoteNumbers, inNumbers};
+ghost use Rattle.host.specs.Numbers.{openingOf, numbersOf, quoteNumbers, inNumbers};
 use held::Entered;
 use held::Search;
 use rules::Opening;
