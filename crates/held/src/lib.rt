@@ -60,13 +60,13 @@ fn with_value(s: Search, value: i32) -> Search
 
 impl Search {
     // The limits: of a point, of the tolerance, of a value above and below 0, and of the answers kept.
-    pub const HIGHEST: u32 = 20000;
+    pub const HIGHEST: u32 = rules::HIGHEST;
 
-    pub const LARGEST_TOLERANCE: u32 = 5000;
+    pub const LARGEST_TOLERANCE: u32 = rules::LARGEST_TOLERANCE;
 
-    pub const LARGEST_VALUE: u32 = 10000;
+    pub const LARGEST_VALUE: u32 = rules::LARGEST_VALUE;
 
-    pub const SLOTS: u32 = 72;
+    pub const SLOTS: u32 = rules::SLOTS;
 
     // A fresh search and its report. A refused opening makes none: beside the refusal stands a blank, which every call refuses.
     pub fn fresh(opening: Opening) -> Entered
