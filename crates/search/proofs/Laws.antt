@@ -7,7 +7,7 @@ use Prim.Native.Nat.{ℕ, zero, suc, _+_, _-_, _*_, _^_, _≤_, _<_}
 use native.Mathlib.Nat.{pow-suc, lt-of-not-le, le-of-suc-le-suc}
 use native.Mathlib.Numerals.{add-one}
 use native.Mathlib.Omega.{arith}
-use borrow.Author.Tests.{ltb-true, le-ltb, eq-eqb}
+use borrow.Author.Tests.{ltb-true, le-ltb, eq-eqb, ne-eqb}
 use lib.Count.{leadingZeros, leading-length}
 use lib.IntN.{ℤ, pos, negsuc}
 use lib.ListN.{length, getD, drop, drop-of-length-le}
@@ -21,11 +21,11 @@ use Rattle.rules.specs.declared.Bracket.{Bracket}
 use Rattle.rules.specs.declared.Progress.{Progress}
 use Rattle.rules.specs.declared.Method.{Method}
 use Rattle.rules.specs.declared.Quote.{Quote}
-use Rattle.rules.specs.Rules.{slots, methodOf, allowed}
-use Rattle.rules.specs.Refusals.{openingRefusal, sameSide}
+use Rattle.rules.specs.Rules.{slots, methodOf, allowed, stoppedOf, nextOf, advanceOf}
+use Rattle.rules.specs.Refusals.{openingRefusal, answerRefusal, tooLarge, sameSide}
 use Rattle.rules.specs.RefusalsLaws.{Opened}
-use Rattle.rules.specs.Search.{isRefused, beginOf, takeOf, offerOf, progressOf, tOf, quoteOf}
-use Rattle.rules.specs.SearchLaws.{SoundAt, sound-begin, sound-offer, refused-stays, most-slots}
+use Rattle.rules.specs.Search.{isRefused, takeOf, offerOf, tOf, quoteOf}
+use Rattle.rules.specs.SearchLaws.{SoundAt, sound-offer, refused-stays, most-slots}
 
 -- ---- the side of the second value, by the sign of the first
 
@@ -50,17 +50,16 @@ side-neither v w e f = simp (e, f)
 
 -- ---- the walk over the values
 
--- i values have led to p: where the search stands after all of them is where it comes to from p over those that are left
-pub record Walked (o : Opening) (vs : List ℤ) (i : ℕ) (p : Progress) : Type 0 where
+-- i values have led from p₀ to p: where all of them lead is where those that are left lead from p
+pub record Walked (o : Opening) (p₀ : Progress) (vs : List ℤ) (i : ℕ) (p : Progress) : Type 0 where
   pub sound : SoundAt o p
-  pub onward : progressOf o vs ≡ foldl (takeOf o) p (drop i vs)
+  pub onward : foldl (takeOf o) p₀ vs ≡ foldl (takeOf o) p (drop i vs)
 
-pub walked-begin : (o : Opening) (vs : List ℤ) → Walked o vs 0 (beginOf o)
-unfolding progressOf
-walked-begin o vs = record { sound = sound-begin o; onward = refl }
+pub walked-none : (o : Opening) (p₀ : Progress) (vs : List ℤ) → SoundAt o p₀ → Walked o p₀ vs 0 p₀
+walked-none o p₀ vs s = record { sound = s; onward = refl }
 
-module _ (o : Opening) (vs : List ℤ) (i : ℕ) (p : Progress) (w : Walked o vs i p) where
-  pub walked-more : i < length vs → Walked o vs (i + 1) (offerOf o p false (getD vs i (pos 0)))
+module _ (o : Opening) (p₀ : Progress) (vs : List ℤ) (i : ℕ) (p : Progress) (w : Walked o p₀ vs i p) where
+  pub walked-more : i < length vs → Walked o p₀ vs (i + 1) (offerOf o p false (getD vs i (pos 0)))
   unfolding takeOf
   walked-more h =
       record {
@@ -68,11 +67,21 @@ module _ (o : Opening) (vs : List ℤ) (i : ℕ) (p : Progress) (w : Walked o vs
         onward = w .onward ∙ rw (drop-cons vs i (pos 0) h, add-one i);
       }
 
-  pub walked-refused : isRefused p ≡ true → p ≡ progressOf o vs
+  pub walked-refused : isRefused p ≡ true → p ≡ foldl (takeOf o) p₀ vs
   walked-refused e = sym (w .onward ∙ refused-stays o p (drop i vs) e)
 
-  pub walked-end : length vs ≤ i → p ≡ progressOf o vs
+  pub walked-end : length vs ≤ i → p ≡ foldl (takeOf o) p₀ vs
   walked-end h = sym (w .onward ∙ rw (drop-of-length-le vs h))
+
+-- one value to a bracket: refused, or the bracket advanced
+module _ (o : Opening) (k : Bracket) (v : ℤ) (n : ℕ) (e : n ≡ answerRefusal (stoppedOf o k) false (tooLarge v) false) where
+  pub value-refused : (n ≡ 0 → ⊥) → offerOf o (Progress.Bracketed k) false v ≡ Progress.Refused n (k .taken)
+  unfolding offerOf
+  value-refused h = rw (← e) (simp (ne-eqb n 0 h))
+
+  pub value-entered : n ≡ 0 → offerOf o (Progress.Bracketed k) false v ≡ Progress.Bracketed (advanceOf k (record { point = nextOf o k; value = v }))
+  unfolding offerOf
+  value-entered h = simp (eq-eqb _ 0 (sym e ∙ h))
 
 -- ---- the leading zeros of a number and its binary digits make 32
 

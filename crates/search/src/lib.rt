@@ -2,6 +2,7 @@
 // quote. The steps are those of crate `steps`.
 ghost use mathlib.Core.Path.{_≡_};
 ghost use mathlib.Core.Bool.{not, _||_};
+ghost use mathlib.Core.List.{foldl};
 ghost use lib.IntN.{pos};
 ghost use Prim.Native.Nat.{_≤_};
 ghost use Rattle.integers.specs.Signs.{eqZ};
@@ -9,7 +10,7 @@ ghost use Rattle.interpolation.specs.Ranges.{widest};
 ghost use Rattle.rules.specs.Rules.{highest, allowed};
 ghost use Rattle.rules.specs.Refusals.{openingRefusal, answerRefusal, tooLarge, sameSide, outside};
 ghost use Rattle.rules.specs.RefusalsLaws.{Opened};
-ghost use Rattle.rules.specs.Search.{isRefused, beginOf, otherAt, answeredAt, offerOf, progressOf, bracketReport, reportAt, reportOf, turnsOf, quoteOf};
+ghost use Rattle.rules.specs.Search.{isRefused, beginOf, otherAt, answeredAt, offerOf, takeOf, progressOf, bracketReport, reportAt, reportOf, turnsOf, quoteOf};
 ghost use Rattle.rules.specs.SearchLaws.{Sound, SoundAt};
 ghost use Rattle.rules.specs.declared.Progress.the-variants.{First, Bracketed};
 use rules::Bracket;
@@ -269,6 +270,32 @@ pub fn is_refused(p: Progress) -> bool
     }
 }
 
+// Where a search with a bracket stands after further values: `offer_more` for each, with the bracket kept apart for speed.
+fn walk(o: Opening, bracket: Bracket, values: &[i32]) -> Progress
+    requires { ⌜ (Opened o) × (Sound o bracket) ⌝ }
+    ensures { λ r. ⌜ r ≡ foldl (takeOf o) (Bracketed bracket) (now (values .entry)) ⌝ }
+{
+    let mut k = bracket;
+    let mut i: usize = 0;
+    while i < values.len() {
+        let v = values[i];
+        i += 1;
+        let n = answer_refusal(steps::stopped(o, k), false, too_large(v), false);
+        if n != 0 {
+            return Progress::Refused {
+                number: n,
+                place: k.taken,
+            };
+        }
+        let x = Sample {
+            point: steps::next_point(o, k),
+            value: v,
+        };
+        k = steps::advance(k, x);
+    }
+    Progress::Bracketed { bracket: k }
+}
+
 // Where a search stands after the values answered so far, of any length.
 pub fn progress_on(o: Opening, values: &[i32]) -> Progress
     ensures { λ r. ⌜ r ≡ progressOf o (now (values .entry)) ⌝ }
@@ -278,10 +305,13 @@ pub fn progress_on(o: Opening, values: &[i32]) -> Progress
     while i < values.len() {
         let v = values[i];
         p = offer(o, p, false, v);
+        i += 1;
+        if let Progress::Bracketed { bracket } = p {
+            return walk(o, bracket, &values[i..]);
+        }
         if is_refused(p) {
             return p;
         }
-        i += 1;
     }
     p
 }
