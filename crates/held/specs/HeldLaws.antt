@@ -158,10 +158,9 @@ module _ (o : Opening) (p : Progress) (r : Report) (h : Search) (e : p ≡ begin
       go true i t = ap (λ (q : Progress). record { report = reportAt o q; search = freshOf o }) (simp i)
       go false i t = never t
 
--- an answer: p is where the search stands, b whether its point is another, q where the search stands then
-module _ (s : Search) (x v : ℤ) (p : Progress) (b : Bool) (q : Progress) where
-  pub tried-is : p ≡ standingOf s → b ≡ otherAt (s .opening) p x → q ≡ offerOf (s .opening) p b v → q ≡ triedOf s x v
-  tried-is e f g = g ∙ rw (f, e)
+-- an answer: p is where the search stands, and q where it stands then
+pub tried-is : (s : Search) (x v : ℤ) (p q : Progress) → p ≡ standingOf s → q ≡ offerOf (s .opening) p (otherAt (s .opening) p x) v → q ≡ triedOf s x v
+tried-is s x v p q e f = f ∙ rw e
 
 module _ (s : Search) (x v : ℤ) (q : Progress) (r : Report) (e : q ≡ triedOf s x v) (f : r ≡ reportAt (s .opening) q) where
   pub enter-refused : isRefused q ≡ true → record { report = r; search = s } ≡ enterOf s x v

@@ -105,7 +105,7 @@ impl Search {
     {
         let opening = self.opening;
         let p = standing(self);
-        let q = search::offer(opening, p, search::is_other(opening, p, point), value);
+        let q = search::offer_at(opening, p, point, value);
         let report = search::report_at(opening, q);
         if search::is_refused(q) {
             return Entered {

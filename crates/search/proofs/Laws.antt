@@ -1,7 +1,7 @@
 -- Laws of the definitions that several functions of this crate cite.
 -- Assumes nothing.
 use mathlib.Core.Path.{_≡_, refl, sym, _∙_}
-use mathlib.Core.Bool.{Bool, true, false, cond, _||_, _&&_}
+use mathlib.Core.Bool.{Bool, true, false, cond, not, _||_, _&&_}
 use mathlib.Core.List.{List, [], _∷_, foldl}
 use Prim.Native.Nat.{ℕ, zero, suc, _+_, _-_, _*_, _^_, _≤_, _<_}
 use native.Mathlib.Nat.{pow-suc, lt-of-not-le, le-of-suc-le-suc}
@@ -14,7 +14,7 @@ use lib.ListN.{length, getD, drop, drop-of-length-le}
 use lib.Pow.{pow-mono}
 use lib.Seq.{drop-cons}
 use lib.Signed.{ltZ}
-use Rattle.integers.specs.Signs.{never}
+use Rattle.integers.specs.Signs.{eqZ, never}
 use Rattle.integers.specs.Digits.{digits, digits-least}
 use Rattle.rules.specs.declared.Opening.{Opening}
 use Rattle.rules.specs.declared.Bracket.{Bracket}
@@ -24,7 +24,7 @@ use Rattle.rules.specs.declared.Quote.{Quote}
 use Rattle.rules.specs.Rules.{slots, methodOf, allowed, stoppedOf, nextOf, advanceOf}
 use Rattle.rules.specs.Refusals.{openingRefusal, answerRefusal, tooLarge, sameSide}
 use Rattle.rules.specs.RefusalsLaws.{Opened}
-use Rattle.rules.specs.Search.{isRefused, takeOf, offerOf, tOf, quoteOf}
+use Rattle.rules.specs.Search.{isRefused, otherAt, takeOf, offerOf, tOf, quoteOf}
 use Rattle.rules.specs.SearchLaws.{SoundAt, sound-offer, refused-stays, most-slots}
 
 -- ---- the side of the second value, by the sign of the first
@@ -82,6 +82,24 @@ module _ (o : Opening) (k : Bracket) (v : ℤ) (n : ℕ) (e : n ≡ answerRefusa
   pub value-entered : n ≡ 0 → offerOf o (Progress.Bracketed k) false v ≡ Progress.Bracketed (advanceOf k (record { point = nextOf o k; value = v }))
   unfolding offerOf
   value-entered h = simp (eq-eqb _ 0 (sym e ∙ h))
+
+-- an answer with its point to a bracket: after the stop, refused, or the bracket advanced
+module _ (o : Opening) (k : Bracket) (x v : ℤ) where
+  abbrev called : Progress
+  called = offerOf o (Progress.Bracketed k) (otherAt o (Progress.Bracketed k) x) v
+
+  pub called-stopped : stoppedOf o k ≡ true → Progress.Refused 5 (k .taken) ≡ called
+  unfolding offerOf answerRefusal
+  called-stopped e = simp e
+
+  module _ (going : stoppedOf o k ≡ false) (n : ℕ) (e : n ≡ answerRefusal false (not (eqZ x (pos (nextOf o k)))) (tooLarge v) false) where
+    pub called-refused : (n ≡ 0 → ⊥) → Progress.Refused n (k .taken) ≡ called
+    unfolding offerOf
+    called-refused h = simp going (rw (← e) (simp (ne-eqb n 0 h)))
+
+    pub called-entered : n ≡ 0 → Progress.Bracketed (advanceOf k (record { point = nextOf o k; value = v })) ≡ called
+    unfolding offerOf
+    called-entered h = simp going (simp (eq-eqb _ 0 (sym e ∙ h)))
 
 -- ---- the leading zeros of a number and its binary digits make 32
 

@@ -186,7 +186,7 @@ fn differs(x: i32, p: u32) -> bool
 }
 
 // Whether x is another point than the one called for.
-pub fn is_other(o: Opening, p: Progress, x: i32) -> bool
+fn is_other(o: Opening, p: Progress, x: i32) -> bool
     requires { ⌜ SoundAt o p ⌝ }
     ensures { λ r. ⌜ r ≡ otherAt o p x ⌝ }
 {
@@ -204,6 +204,36 @@ pub fn is_other(o: Opening, p: Progress, x: i32) -> bool
             place: _,
         } => false,
     }
+}
+
+// An answer with its point, to a search that has a bracket: the next point is worked out once.
+fn offer_called(o: Opening, k: Bracket, x: i32, v: i32) -> Progress
+    requires { ⌜ (Opened o) × (Sound o k) ⌝ }
+    ensures { λ r. ⌜ r ≡ offerOf o (Bracketed k) (otherAt o (Bracketed k) x) v ⌝ }
+{
+    let place = k.taken;
+    if steps::stopped(o, k) {
+        return Progress::Refused { number: 5, place };
+    }
+    let point = steps::next_point(o, k);
+    let n = answer_refusal(false, differs(x, point), too_large(v), false);
+    if n != 0 {
+        return Progress::Refused { number: n, place };
+    }
+    Progress::Bracketed {
+        bracket: steps::advance(k, Sample { point, value: v }),
+    }
+}
+
+// Where a search stands after one answer more, tried with its point.
+pub fn offer_at(o: Opening, p: Progress, x: i32, v: i32) -> Progress
+    requires { ⌜ SoundAt o p ⌝ }
+    ensures { λ r. ⌜ r ≡ offerOf o p (otherAt o p x) v ⌝ }
+{
+    if let Progress::Bracketed { bracket } = p {
+        return offer_called(o, bracket, x, v);
+    }
+    offer(o, p, is_other(o, p, x), v)
 }
 
 // The report on a bracket: the stop, or the next point.

@@ -46,8 +46,7 @@ fn answers_on(o: Opening, points: &[i32], values: &[i32]) -> Progress
     while i < points.len() {
         let x = points[i];
         let v = values[i];
-        let other = search::is_other(o, p, x);
-        p = search::offer(o, p, other, v);
+        p = search::offer_at(o, p, x, v);
         i += 1;
     }
     p

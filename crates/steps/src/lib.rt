@@ -27,7 +27,7 @@ pub fn method_of(o: Opening) -> Method
 }
 
 // The tolerance at the better end b.
-pub fn tolerance_at(o: Opening, b: u32) -> u32
+fn tolerance_at(o: Opening, b: u32) -> u32
     ensures { λ r. ⌜ r ≡ toleranceAt o b ⌝ }
 {
     interpolation::magnitude(o.tolerance)
@@ -68,7 +68,7 @@ pub fn gap(p: u32, q: u32) -> u32
 }
 
 // L = |b − c|.
-pub fn width(k: Bracket) -> u32
+fn width(k: Bracket) -> u32
     ensures { λ r. ⌜ r ≡ widthOf k ⌝ }
 {
     gap(k.better.point, k.other.point)

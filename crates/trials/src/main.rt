@@ -125,7 +125,7 @@ fn step_through(label: &[u8], o: Opening, values: &[i32]) {
     }
 }
 
-fn whole_searches() {
+fn whole_search_by_m() {
     let values = [
         -10000,
         10000,
@@ -151,6 +151,9 @@ fn whole_searches() {
         opening(1, 0, 1000, 2),
         &values,
     );
+}
+
+fn whole_search_by_r() {
     let others = [
         -10000,
         10000,
@@ -174,6 +177,9 @@ fn whole_searches() {
         opening(2, 0, 1000, 2),
         &others,
     );
+}
+
+fn refused_search() {
     step_through(
         b"a refused opening, and an answer to its blank:\n",
         opening(1, 7, 7, 1),
@@ -285,7 +291,9 @@ fn main() {
     ends_of_the_range();
     tolerances_and_values();
     extremes();
-    whole_searches();
+    whole_search_by_m();
+    whole_search_by_r();
+    refused_search();
     held_reports();
     held_refusals();
     held_answers();

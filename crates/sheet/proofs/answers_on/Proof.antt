@@ -1,8 +1,7 @@
 -- `sheet::answers_on` meets its contract. The loop's invariant: where all the answers lead is where those that are left lead from here.
 -- Assumes nothing.
 use Prim.Native.Nat.{_+_, _-_, _≤_}
-use mathlib.Core.Path.{_≡_, sym, ap, subst, _∙_}
-use mathlib.Core.Bool.{Bool}
+use mathlib.Core.Path.{sym, subst}
 use native.Mathlib.Omega.{arith}
 use borrow.Author.Needs.{needs}
 use lib.IntN.{pos}
@@ -10,7 +9,6 @@ use lib.ListN.{length, getD}
 use mir.Syntax.{w32}
 use mir.Val.{SFits}
 use Rattle.integers.specs.Bounds.{read}
-use Rattle.rules.specs.Search.{otherAt, offerOf}
 use Rattle.sheet.specs.SheetLaws.{Led, led-begin, led-more, led-end}
 use Rattle.sheet.proofs.answers_on.Statement.{statement}
 use Rattle.sheet.proofs.answers_on.Tie as tie
@@ -22,20 +20,19 @@ abbrev μ-loop : tie.MeasureT-loop
 μ-loop o points values p₀ i₀ p i = length points - i
 
 -- once an answer has been taken
-abbrev start-of : tie.After-offer Inv-loop μ-loop → tie.Start Inv-loop μ-loop
-start-of c = c .before .before .before .before .before .before
+abbrev start-of : tie.After-offer-at Inv-loop μ-loop → tie.Start Inv-loop μ-loop
+start-of c = c .before .before .before .before .before
 
-more : (c : tie.After-offer Inv-loop μ-loop) → Led (start-of c .args .o) (start-of c .args .points .now) (start-of c .args .values .now) (c .before .before .before .before .before .loop .i + 1) (c .offer .result)
+more : (c : tie.After-offer-at Inv-loop μ-loop) → Led (start-of c .args .o) (start-of c .args .points .now) (start-of c .args .values .now) (c .before .before .before .before .loop .i + 1) (c .offer-at .result)
 more c =
     let o = start-of c .args .o in
     let xs = start-of c .args .points .now in
     let vs = start-of c .args .values .now in
-    let l = c .before .before .before .before .before .loop in
+    let l = c .before .before .before .before .loop in
     let f : SFits w32 (getD xs (l .i) (pos 0)) = search needs in
     let g : SFits w32 (getD vs (l .i) (pos 0)) = search needs in
-    let e : c .before .is-other .result ≡ otherAt o (l .p) (getD xs (l .i) (pos 0)) = rw (read f) at (c .before .is-other .ensures) in
-    let q : c .offer .result ≡ offerOf o (l .p) (otherAt o (l .p) (getD xs (l .i) (pos 0))) (getD vs (l .i) (pos 0)) = rw (read g) at (c .offer .ensures) ∙ ap (λ (b : Bool). offerOf o (l .p) b (getD vs (l .i) (pos 0))) e in
-    subst (Led o xs vs (l .i + 1)) (sym q) (led-more o xs vs (l .i) (l .p) (l .inv .1) (c .before .before .before .before .loop-test .taken) (start-of c .pre .1))
+    let q = rw (read f, read g) at (c .offer-at .ensures) in
+    subst (Led o xs vs (l .i + 1)) (sym q) (led-more o xs vs (l .i) (l .p) (l .inv .1) (c .before .before .before .loop-test .taken) (start-of c .pre .1))
 
 loop-holds : tie.Need-loop-holds Inv-loop μ-loop
 loop-holds c = (omega arith, led-begin (c .args .o) (c .args .points .now) (c .args .values .now) (c .pre .0))
@@ -52,11 +49,8 @@ mul-v c = search needs
 shared-slice-copy-out-v : tie.Need-shared-slice-copy-out-v Inv-loop μ-loop
 shared-slice-copy-out-v c = omega (arith, c .before .before .before .pre .1)
 
-is-other-requires : tie.Need-is-other-requires Inv-loop μ-loop
-is-other-requires c κs = c .before .before .before .loop .inv .1 .sound
-
-offer-requires : tie.Need-offer-requires Inv-loop μ-loop
-offer-requires c κs = c .before .before .before .before .loop .inv .1 .sound
+offer-at-requires : tie.Need-offer-at-requires Inv-loop μ-loop
+offer-at-requires c κs = c .before .before .before .loop .inv .1 .sound
 
 add-i : tie.Need-add-i Inv-loop μ-loop
 add-i c = search needs
@@ -81,8 +75,7 @@ answers-on-spec =
     shared-slice-copy-out-x
     mul-v
     shared-slice-copy-out-v
-    is-other-requires
-    offer-requires
+    offer-at-requires
     add-i
     loop-less
     loop-again

@@ -17,22 +17,20 @@ standing-sound : (c : tie.After-standing) → SoundAt (c .before .before .args .
 standing-sound c =
     subst (SoundAt (c .before .before .args .self .opening)) (sym (c .standing .ensures)) (sound-standing (c .before .before .args .self))
 
-abbrev start-of : tie.After-offer → tie.Start
-start-of c = c .before .before .before .before
+abbrev start-of : tie.After-offer-at → tie.Start
+start-of c = c .before .before .before
 
 long : (s : tie.Start) → length (s .args .self .slots) ≡ slots
 long s = search needs
 
-tried : (c : tie.After-offer) → c .offer .result ≡ triedOf (start-of c .args .self) (start-of c .args .point) (start-of c .args .value)
+tried : (c : tie.After-offer-at) → c .offer-at .result ≡ triedOf (start-of c .args .self) (start-of c .args .point) (start-of c .args .value)
 tried c =
     let s = start-of c in
-    let p = c .before .before .standing in
-    tried-is (s .args .self) (s .args .point) (s .args .value) (p .result) (c .before .is-other .result) (c .offer .result)
-    (p .ensures)
-    (rw (read (s .fits .point)) at (c .before .is-other .ensures))
-    (rw (read (s .fits .value)) at (c .offer .ensures))
+    let p = c .before .standing in
+    tried-is (s .args .self) (s .args .point) (s .args .value) (p .result) (c .offer-at .result) (p .ensures)
+    (rw (read (s .fits .point), read (s .fits .value)) at (c .offer-at .ensures))
 
-tried-sound : (c : tie.After-offer) → SoundAt (start-of c .args .self .opening) (c .offer .result)
+tried-sound : (c : tie.After-offer-at) → SoundAt (start-of c .args .self .opening) (c .offer-at .result)
 tried-sound c =
     let s = start-of c .args in
     subst (SoundAt (s .self .opening)) (sym (tried c)) (sound-tried (s .self) (s .point) (s .value))
@@ -40,11 +38,8 @@ tried-sound c =
 standing-requires : tie.Need-standing-requires
 standing-requires c κs = search needs
 
-is-other-requires : tie.Need-is-other-requires
-is-other-requires c κs = standing-sound c
-
-offer-requires : tie.Need-offer-requires
-offer-requires c κs = standing-sound (c .before)
+offer-at-requires : tie.Need-offer-at-requires
+offer-at-requires c κs = standing-sound c
 
 report-at-requires : tie.Need-report-at-requires
 report-at-requires c κs = tried-sound c
@@ -56,7 +51,7 @@ returns : tie.Need-returns
 returns c =
     let q = c .before .before .before in
     let s = start-of q .args in
-    enter-refused (s .self) (s .point) (s .value) (q .offer .result) (c .before .before .report-at .result)
+    enter-refused (s .self) (s .point) (s .value) (q .offer-at .result) (c .before .before .report-at .result)
     (tried q)
     (c .before .before .report-at .ensures)
     (sym (c .before .is-refused .ensures) ∙ c .if1 .taken)
@@ -72,7 +67,7 @@ returns-2 c =
     let d = c .before in
     let q = d .before .before .before in
     let s = start-of q .args in
-    enter-accepted (s .self) (s .point) (s .value) (q .offer .result) (d .before .before .report-at .result)
+    enter-accepted (s .self) (s .point) (s .value) (q .offer-at .result) (d .before .before .report-at .result)
     (tried q)
     (d .before .before .report-at .ensures)
     (long (start-of q))
@@ -85,8 +80,7 @@ enter-spec =
     tie.close
     (tie.spec
     standing-requires
-    is-other-requires
-    offer-requires
+    offer-at-requires
     report-at-requires
     is-refused-requires
     returns
