@@ -1,7 +1,7 @@
 -- The laws of held searches: what is known of where one stands, that a slot is free for every answer that is accepted, that slots
 -- at or past the count never alter a report, and that a blank is refused by every call.
 -- Assumes nothing.
-use Prim.Native.Nat.{ℕ, suc, _+_, _≤_, _<_, min}
+use Prim.Native.Nat.{ℕ, _+_, _≤_, _<_}
 use mathlib.Core.Path.{_≡_, refl, sym, ap, ap₂, subst, _∙_}
 use mathlib.Core.Bool.{Bool, true, false, cond}
 use mathlib.Core.List.{List, [], _∷_, _++_}
@@ -9,8 +9,8 @@ use native.Mathlib.Numerals.{add-one}
 use native.Mathlib.Omega.{arith}
 use borrow.Author.Tests.{ltb-false, le-ltb}
 use lib.Dec.{ltb, eqb}
-use lib.IntN.{ℤ, pos}
-use lib.ListN.{length, take, set}
+use lib.IntN.{ℤ}
+use lib.ListN.{length}
 use lib.Seq.{take-suc-set, length-take-le}
 use Rattle.integers.specs.Signs.{never}
 use Rattle.rules.specs.declared.Opening.{Opening}

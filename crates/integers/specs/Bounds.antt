@@ -9,7 +9,7 @@ use native.Mathlib.Omega.{arith}
 use lib.Dec.{T, ltb, eqb, ltb→lt, lt→ltb}
 use lib.IntN.{ℤ, pos, negsuc, negℤ, natAbs, subℕ, _+ℤ_, _-ℤ_, _*ℤ_, +ℤ-idl}
 use lib.Signed.{mag, nonNeg, quotZ, ltZ, _<ℤ_, natAbs-le}
-use mir.Syntax.{Width, w32, w64}
+use mir.Syntax.{Width, w64}
 use mir.Val.{SFits, hbits, toZ, ofZ}
 use mir.Facts.{toZ-ofZ}
 use borrow.Author.Tests.{ltb-true, eqb-true, eqb-false}
@@ -108,9 +108,6 @@ fits-within {z = z} h = record { abs-le = natAbs-le z (h .sfits) }
 
 pub read : {w : Width} {z : ℤ} → SFits w z → toZ w (ofZ w z) ≡ z
 read h = toZ-ofZ h
-
-pub read32 : {z : ℤ} {k : ℕ} → Within z k → T (ltb k (2 ^ 31)) → toZ w32 (ofZ w32 z) ≡ z
-read32 h t = read (within-fits h t)
 
 pub read64 : {z : ℤ} {k : ℕ} → Within z k → T (ltb k (2 ^ 63)) → toZ w64 (ofZ w64 z) ≡ z
 read64 h t = read (within-fits h t)

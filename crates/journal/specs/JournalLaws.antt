@@ -1,13 +1,13 @@
 -- The book and the search over a list come to the same: what is known of a book that answers have made, where the list of its values
 -- leads, and what its brackets are.
 -- Assumes nothing.
-use Prim.Native.Nat.{ℕ, suc, _+_, _≤_, _<_}
+use Prim.Native.Nat.{ℕ, _≤_, _<_}
 use mathlib.Core.Path.{_≡_, refl, sym, ap, ap₂, subst, subst₂, _∙_}
-use mathlib.Core.Bool.{Bool, true, false, cond, not, _&&_}
-use mathlib.Core.List.{List, [], _∷_, _++_, map, foldl}
+use mathlib.Core.Bool.{Bool, true, false, cond, not}
+use mathlib.Core.List.{List, [], _∷_, _++_, foldl}
 use native.Mathlib.Omega.{arith}
 use borrow.Author.Tests.{eqb-true, eq-eqb, ltb-false, le-ltb}
-use lib.Dec.{eqb, ltb}
+use lib.Dec.{ltb}
 use lib.IntN.{ℤ, pos, natAbs}
 use lib.ListN.{length, length-map}
 use Rattle.integers.specs.Signs.{eqZ, eqZ-true, never}
@@ -15,15 +15,14 @@ use Rattle.rules.specs.declared.Opening.{Opening}
 use Rattle.rules.specs.declared.Sample.{Sample}
 use Rattle.rules.specs.declared.Bracket.{Bracket}
 use Rattle.rules.specs.declared.Progress.{Progress}
-use Rattle.rules.specs.declared.Report.{Report}
 use Rattle.rules.specs.Rules.{largestValue, firstOf, secondOf, startOf, stoppedOf, nextOf, advanceOf}
 use Rattle.rules.specs.Refusals.{openingRefusal, answerRefusal, tooLarge, sameSide, Accepted}
-use Rattle.rules.specs.RefusalsLaws.{Opened, opened, or-false, opposed-crossing}
+use Rattle.rules.specs.RefusalsLaws.{Opened, opposed-crossing}
 use Rattle.rules.specs.RulesLaws.{Inside}
-use Rattle.rules.specs.Search.{isRefused, beginOf, stoppedAt, sameSideAt, takenOf, otherAt, enteredAt, answeredAt, offerOf, takeOf, progressOf, bracketReport, reportAt, reportOf, mostOf}
+use Rattle.rules.specs.Search.{isRefused, beginOf, stoppedAt, sameSideAt, otherAt, enteredAt, offerOf, takeOf, progressOf, bracketReport, reportAt, reportOf, mostOf}
 use Rattle.rules.specs.SearchLaws.{Sound, sound-start, sound-advance, advanced, counts, at-most, before-stop}
 use Rattle.journal.specs.Answers.{Answer, valueOf, values}
-use Rattle.journal.specs.Journal.{sampleOf, advancedBy, bracketOf, stopOf, pointOf, reportWith, journalReport, oneSide, refusalOf, takes, bookWith, toldOf, bracketsFrom, bracketsOf}
+use Rattle.journal.specs.Journal.{sampleOf, advancedBy, bracketOf, stopOf, pointOf, reportWith, journalReport, oneSide, refusalOf, takes, bracketsFrom, bracketsOf}
 
 -- ---- where a search of the book's values stands
 

@@ -2,26 +2,25 @@
 -- reader gives the book's report on a sheet of it.
 -- Assumes nothing.
 use Prim.Native.Nat.{ℕ, suc, _+_, _-_, _≤_, _<_}
-use mathlib.Core.Path.{_≡_, refl, sym, ap, ap₂, subst, _∙_}
-use mathlib.Core.Bool.{Bool, true, false, cond, not, _&&_}
-use mathlib.Core.List.{List, [], _∷_, _++_, map, foldl, append-assoc}
-use native.Mathlib.Numerals.{add-one}
+use mathlib.Core.Path.{_≡_, refl, sym, ap, ap₂, _∙_}
+use mathlib.Core.Bool.{Bool, true, false, cond, not}
+use mathlib.Core.List.{List, [], _∷_, _++_, append-assoc}
 use native.Mathlib.Omega.{arith}
-use borrow.Author.Tests.{eqb-false, le-ltb}
-use lib.Dec.{eqb, ltb}
-use lib.IntN.{ℤ, pos, natAbs}
-use lib.ListN.{length, take, set, replicate, length-append, length-replicate, length-map}
+use borrow.Author.Tests.{le-ltb}
+use lib.Dec.{eqb}
+use lib.IntN.{ℤ, pos}
+use lib.ListN.{length, set, replicate, length-append, length-replicate, length-map}
 use lib.Seq.{take-at, set-at}
-use Rattle.integers.specs.Signs.{eqZ, eq-eqZ, never}
+use Rattle.integers.specs.Signs.{eqZ, eq-eqZ}
 use Rattle.rules.specs.declared.Opening.{Opening}
 use Rattle.rules.specs.declared.Sample.{Sample}
 use Rattle.rules.specs.declared.Bracket.{Bracket}
 use Rattle.rules.specs.declared.Progress.{Progress}
 use Rattle.rules.specs.declared.Report.{Report}
-use Rattle.rules.specs.Rules.{highest, slots, firstOf, secondOf, startOf, stoppedOf, nextOf, advanceOf}
-use Rattle.rules.specs.Refusals.{answerRefusal, tooLarge, Accepted}
+use Rattle.rules.specs.Rules.{highest, slots, firstOf, secondOf, startOf, nextOf, advanceOf}
+use Rattle.rules.specs.Refusals.{Accepted}
 use Rattle.rules.specs.RefusalsLaws.{Opened, opened, Ranged}
-use Rattle.rules.specs.Search.{isRefused, stoppedAt, sameSideAt, takenOf, otherAt, enteredAt, answeredAt, offerOf, takeOf, progressOf, reportAt, mostOf}
+use Rattle.rules.specs.Search.{isRefused, takenOf, otherAt, enteredAt, answeredAt, offerOf, takeOf, progressOf, reportAt}
 use Rattle.rules.specs.SearchLaws.{Sound, ahead, counts, most-slots}
 use Rattle.held.specs.declared.Search.{Search}
 use Rattle.held.specs.declared.Entered.{Entered}
@@ -33,9 +32,9 @@ use Rattle.sheet.specs.Sheet.{answersOf, leadsTo, settledAs, sheetOf}
 use Rattle.sheet.specs.SheetLaws.{outcome-accepted, sheet-read}
 use Rattle.journal.specs.Answers.{Answer, valueOf, points, values}
 use Rattle.journal.specs.Answers as Answers
-use Rattle.journal.specs.Journal.{sampleOf, advancedBy, bracketOf, stopOf, pointOf, journalReport, refusalOf, takes, bookWith, toldOf}
+use Rattle.journal.specs.Journal.{sampleOf, advancedBy, bracketOf, pointOf, journalReport, refusalOf, takes, bookWith, toldOf}
 use Rattle.journal.specs.SpellingLaws.{Short, ShortOpening, ShortAnswers}
-use Rattle.journal.specs.JournalLaws.{stageOf, refusal-stage, Onward, Next, At, Kept, Fine, fine, kept-more, first-taken, second-taken, next-taken, kept-progress, sample-is, report-stage, at-most-answers, step-sound, start-sound}
+use Rattle.journal.specs.JournalLaws.{stageOf, refusal-stage, Onward, At, Kept, Fine, fine, kept-more, first-taken, second-taken, next-taken, kept-progress, sample-is, report-stage, at-most-answers, step-sound, start-sound}
 
 -- ---- the search that holds a book's values
 

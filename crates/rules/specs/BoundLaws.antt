@@ -1,7 +1,7 @@
 -- How many steps a search takes whose widths shrink, and halve at least once in every m + 1 steps: t is the least number of
 -- halvings that suffice, and each step leaves less of (m + 1) t, with the streak counted in.
 -- Assumes nothing.
-use Prim.Native.Nat.{ℕ, zero, suc, _+_, _-_, _*_, _/_, _^_, _≤_, _<_, zero-le}
+use Prim.Native.Nat.{ℕ, _+_, _-_, _*_, _/_, _^_, _≤_, _<_, zero-le}
 use mathlib.Core.Path.{_≡_, refl, sym, ap, _∙_}
 use mathlib.Core.Bool.{Bool, true, false, cond}
 use native.Mathlib.Nat.{le-trans, pow-suc, mul-comm, mul-assoc, mul-add, mul-one, mul-le-mul-left, mul-le-mul, div-mul-le-self, le-div-iff-mul-le, div-lt-iff-lt-mul, div-div-eq-div-mul}

@@ -1,16 +1,15 @@
 -- Worked examples of single definitions, each by computation.
 -- Assumes nothing.
 use mathlib.Core.Path.{_≡_, refl}
-use mathlib.Core.Bool.{Bool, true, false}
+use mathlib.Core.Bool.{true}
 use lib.IntN.{ℤ, pos, negℤ}
 use Rattle.integers.specs.Digits.{digits, digitsWithin}
 use Rattle.rules.specs.declared.Opening.{Opening}
 use Rattle.rules.specs.declared.Sample.{Sample}
-use Rattle.rules.specs.declared.Bracket.{Bracket}
 use Rattle.rules.specs.declared.Fraction.{Fraction}
 use Rattle.rules.specs.declared.Quote.{Quote}
-use Rattle.rules.specs.Rules.{methodOf, forwardOf, displacementOf, atBetter, noEstimate, linearOf, crossOf, rationalOf, doubledOf, opposed, partnerOf, streakOf}
-use Rattle.rules.specs.Refusals.{openingRefusal, answerRefusal}
+use Rattle.rules.specs.Rules.{methodOf, forwardOf, displacementOf, atBetter, noEstimate, linearOf, crossOf, rationalOf, streakOf}
+use Rattle.rules.specs.Refusals.{openingRefusal}
 use Rattle.rules.specs.Search.{turnsOf, quoteOf}
 
 abbrev over : ℤ → ℤ → Fraction

@@ -1,17 +1,16 @@
 -- What an opening that is accepted holds, and what an answer that is not refused is.
 -- Assumes nothing.
-use Prim.Native.Nat.{ℕ, zero, suc, _*_, _≤_, _<_}
+use Prim.Native.Nat.{ℕ, zero, suc, _*_, _≤_}
 use mathlib.Core.Path.{_≡_, refl, sym, ap, _∙_}
-use mathlib.Core.Bool.{Bool, true, false, cond, _&&_, _||_}
+use mathlib.Core.Bool.{Bool, true, false, cond, _||_}
 use native.Mathlib.Omega.{arith}
-use borrow.Author.Tests.{ltb-false, ltb-true, lt-ltb, le-ltb, le-leb, leb-true}
-use lib.Dec.{ltb, leb, eqb}
+use borrow.Author.Tests.{ltb-false, lt-ltb, le-ltb, le-leb, leb-true}
+use lib.Dec.{ltb}
 use lib.IntN.{ℤ, pos, negsuc, natAbs}
-use lib.Signed.{ltZ, leZ}
 use Rattle.integers.specs.Signs.{eqZ, eq-eqZ, never, negated, product-above}
 use Rattle.rules.specs.declared.Opening.{Opening}
-use Rattle.rules.specs.Rules.{highest, largestTolerance, largestValue, opposed}
-use Rattle.rules.specs.Refusals.{outside, tooLarge, sameSide, openingRefusal, answerRefusal, Accepted}
+use Rattle.rules.specs.Rules.{highest, largestTolerance, opposed}
+use Rattle.rules.specs.Refusals.{outside, sameSide, openingRefusal, answerRefusal, Accepted}
 
 -- ---- no refusal applies: each cause is absent
 

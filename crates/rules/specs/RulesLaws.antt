@@ -1,15 +1,15 @@
 -- What follows from rules 1 to 8 for one step: where the next point lies, what the new bracket is, and when a step halves.
 -- Assumes nothing.
-use Prim.Native.Nat.{ℕ, zero, suc, _+_, _-_, _*_, _/_, _≤_, _<_, min, max}
+use Prim.Native.Nat.{ℕ, _+_, _-_, _*_, _/_, _≤_, _<_, min, max}
 use mathlib.Core.Path.{_≡_, refl, sym, ap, _∙_}
-use mathlib.Core.Bool.{Bool, true, false, cond, _||_}
+use mathlib.Core.Bool.{Bool, true, false, cond}
 use mathlib.Core.Logic.{_⊎_, inl, inr, ⊎-map}
 use native.Mathlib.Nat.{le-trans, le-of-eq, le-of-lt, mul-assoc, le-of-mul-le-mul-right, div-mul-le-self, mul-le-mul-left, le-div-iff-mul-le}
 use native.Mathlib.Omega.{arith}
-use borrow.Author.Tests.{leb-true, leb-false, ltb-true, ne-eqb, eq-eqb, le-leb}
+use borrow.Author.Tests.{leb-true, leb-false, ltb-true, ne-eqb, eq-eqb}
 use lib.Dec.{leb, ltb, eqb}
-use lib.IntN.{ℤ, pos, negsuc, negℤ, natAbs, _*ℤ_}
-use lib.Signed.{leZ, ltZ, quotZ}
+use lib.IntN.{ℤ, pos, negsuc, negℤ, natAbs}
+use lib.Signed.{ltZ}
 use Rattle.integers.specs.Signs.{eqZ, never, positive-of-negative, positive-of-neither, crosses-comm, crosses-turn}
 use Rattle.rules.specs.declared.Opening.{Opening}
 use Rattle.rules.specs.declared.Method.{Method}
@@ -17,7 +17,7 @@ use Rattle.rules.specs.declared.Sample.{Sample}
 use Rattle.rules.specs.declared.Bracket.{Bracket}
 use Rattle.rules.specs.declared.Fraction.{Fraction}
 use Rattle.rules.specs.declared.Step.{Step}
-use Rattle.rules.specs.Rules.{toleranceAt, methodOf, closer, pairOf, startOf, lowerOf, upperOf, gapOf, widthOf, stoppedOf, forwardOf, displacementOf, linearOf, rationalOf, doubledOf, rising, opposed, partnerOf, thirdOf, streakOf, renewedOf, advanceOf, allowed, stepOf, reachOf, offsetOf, nextOf}
+use Rattle.rules.specs.Rules.{toleranceAt, closer, pairOf, startOf, lowerOf, upperOf, gapOf, widthOf, stoppedOf, forwardOf, displacementOf, rising, opposed, partnerOf, streakOf, renewedOf, advanceOf, allowed, stepOf, reachOf, offsetOf, nextOf}
 
 -- ---- Rule 3: while the search goes on, D is from τ to half of L
 

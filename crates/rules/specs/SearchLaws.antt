@@ -2,17 +2,17 @@
 -- nest, what their values are, how long a streak may be and how many answers are needed. M and R share them: the allowed streak is
 -- a parameter.
 -- Assumes nothing.
-use Prim.Native.Nat.{ℕ, zero, suc, _+_, _-_, _*_, _/_, _^_, _≤_, _<_, min, max}
+use Prim.Native.Nat.{ℕ, _+_, _*_, _/_, _^_, _≤_, _<_}
 use mathlib.Core.Path.{_≡_, refl, sym, ap, subst, _∙_}
 use mathlib.Core.Bool.{Bool, true, false, cond, _||_}
 use mathlib.Core.List.{List, [], _∷_, _++_, foldl, foldl-append}
-use mathlib.Core.Logic.{_⊎_, inl, inr, ⊎-elim}
-use native.Mathlib.Nat.{le-refl, le-trans, mul-le-mul-left, add-zero, zero-add}
+use mathlib.Core.Logic.{_⊎_, inl, inr}
+use native.Mathlib.Nat.{le-refl, le-trans, add-zero, zero-add}
 use native.Mathlib.Omega.{arith}
-use borrow.Author.Tests.{eqb-true, eqb-false, leb-true, ltb-false, eq-eqb}
-use lib.Dec.{leb, ltb, eqb}
-use lib.ListN.{length, length-append}
-use lib.IntN.{ℤ, pos, negsuc, natAbs}
+use borrow.Author.Tests.{eqb-true, ltb-false, eq-eqb}
+use lib.Dec.{leb, eqb}
+use lib.ListN.{length}
+use lib.IntN.{ℤ, pos, natAbs}
 use Rattle.integers.specs.Digits.{Least}
 use Rattle.integers.specs.Signs.{never}
 use Rattle.rules.specs.declared.Opening.{Opening}
@@ -20,9 +20,8 @@ use Rattle.rules.specs.declared.Method.{Method}
 use Rattle.rules.specs.declared.Sample.{Sample}
 use Rattle.rules.specs.declared.Bracket.{Bracket}
 use Rattle.rules.specs.declared.Progress.{Progress}
-use Rattle.rules.specs.declared.Step.{Step}
-use Rattle.rules.specs.Rules.{highest, largestTolerance, largestValue, slots, methodOf, firstOf, secondOf, toleranceAt, closer, pairOf, startOf, lowerOf, upperOf, gapOf, widthOf, stoppedOf, opposed, partnerOf, thirdOf, streakOf, renewedOf, advanceOf, allowed, stepOf, reachOf, offsetOf, nextOf}
-use Rattle.rules.specs.RulesLaws.{Ahead, next-ahead, offset-in, going-wide, Held, Partner, partner-is, Inside, Advance, advance-is, advance-taken, Start, start-is, start-counts, Halves, bisection-halves, forced}
+use Rattle.rules.specs.Rules.{highest, largestTolerance, largestValue, slots, methodOf, firstOf, secondOf, toleranceAt, closer, pairOf, startOf, lowerOf, upperOf, widthOf, stoppedOf, partnerOf, thirdOf, streakOf, renewedOf, advanceOf, allowed, reachOf, offsetOf, nextOf}
+use Rattle.rules.specs.RulesLaws.{Ahead, next-ahead, offset-in, going-wide, Held, partner-is, Inside, Advance, advance-is, advance-taken, start-is, start-counts, Halves, bisection-halves, forced}
 use Rattle.rules.specs.Refusals.{openingRefusal, answerRefusal, tooLarge, sameSide, Accepted}
 use Rattle.rules.specs.RefusalsLaws.{Opened, opened, Passed, answer-passed, crossing-opposed, opposed-crossing}
 use Rattle.rules.specs.Search.{isRefused, beginOf, stoppedAt, sameSideAt, takenOf, enteredAt, answeredAt, offerOf, takeOf, progressOf, distanceOf, tOf, mostOf}

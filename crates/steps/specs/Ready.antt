@@ -1,8 +1,8 @@
 -- What the inner functions ask: a bracket that answers have led to, and whose search goes on.
 -- Assumes nothing.
-use Prim.Native.Nat.{ℕ, _+_, _≤_, _<_}
+use Prim.Native.Nat.{_≤_, _<_}
 use mathlib.Core.Path.{_≡_}
-use mathlib.Core.Bool.{Bool, true, false}
+use mathlib.Core.Bool.{false}
 use Rattle.rules.specs.declared.Opening.{Opening}
 use Rattle.rules.specs.declared.Bracket.{Bracket}
 use Rattle.interpolation.specs.Ranges.{widest, Measured}

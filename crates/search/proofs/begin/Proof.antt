@@ -1,6 +1,6 @@
 -- `search::begin` meets its contract: the opening's refusal, or none.
 -- Assumes nothing.
-use mathlib.Core.Path.{_≡_, sym, ap, _∙_}
+use mathlib.Core.Path.{sym, _∙_}
 use borrow.Author.Tests.{eq-eqb, ne-eqb}
 use Rattle.rules.specs.Search.{beginOf}
 use borrow.Author.Needs.{needs}

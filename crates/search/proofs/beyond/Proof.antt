@@ -1,9 +1,7 @@
 -- `search::beyond` meets its contract: in 64 bits the machine's tests are those of the numbers.
 -- Assumes nothing.
-use mathlib.Core.Bool.{true, false}
-use mathlib.Core.Path.{_≡_, _∙_, sym}
+use mathlib.Core.Path.{_∙_}
 use borrow.Author.Needs.{needs}
-use lib.IntN.{pos}
 use lib.Signed.{ltZ}
 use Rattle.integers.specs.Bounds.{fits-within}
 use Rattle.integers.specs.Formulas.{Formula, wide, nat, widens, tests}

@@ -1,6 +1,6 @@
 -- `search::bracket_report` meets its contract: the ends in order at the stop, and else the next point.
 -- Assumes nothing.
-use mathlib.Core.Path.{_≡_, sym, _∙_}
+use mathlib.Core.Path.{sym, _∙_}
 use native.Mathlib.Nat.{min-eq-left, min-eq-right, max-eq-left, max-eq-right, le-of-lt}
 use Rattle.rules.specs.Search.{bracketReport}
 use borrow.Author.Needs.{needs}

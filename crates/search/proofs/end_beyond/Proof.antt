@@ -1,6 +1,6 @@
 -- `search::end_beyond` meets its contract: the two tests, in order.
 -- Assumes nothing.
-use mathlib.Core.Path.{_≡_, sym, _∙_}
+use mathlib.Core.Path.{sym, _∙_}
 use borrow.Author.Needs.{needs}
 use Rattle.integers.specs.Bounds.{read}
 use Rattle.search.proofs.end_beyond.Statement.{statement}

@@ -1,6 +1,6 @@
 -- `search::is_other` meets its contract: by where the search stands. A next point is asked for only while the search goes on.
 -- Assumes nothing.
-use mathlib.Core.Path.{_≡_, sym, subst, _∙_}
+use mathlib.Core.Path.{sym, subst, _∙_}
 use mir.Syntax.{w32}
 use mir.Val.{SFits}
 use Rattle.integers.specs.Bounds.{read}

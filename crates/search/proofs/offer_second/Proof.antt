@@ -5,7 +5,6 @@ use borrow.Author.Tests.{eq-eqb, ne-eqb}
 use mir.Syntax.{w32}
 use mir.Val.{SFits}
 use Rattle.integers.specs.Bounds.{read}
-use Prim.Native.Nat.{ℕ}
 use mathlib.Core.Bool.{false}
 use Rattle.rules.specs.declared.Progress.{Progress}
 use Rattle.rules.specs.Refusals.{answerRefusal, tooLarge, sameSide}

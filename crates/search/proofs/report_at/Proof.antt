@@ -1,6 +1,6 @@
 -- `search::report_at` meets its contract: by where the search stands.
 -- Assumes nothing.
-use mathlib.Core.Path.{_≡_, subst}
+use mathlib.Core.Path.{subst}
 use mir.Syntax.{w32}
 use mir.Val.{SFits}
 use Rattle.integers.specs.Bounds.{read}

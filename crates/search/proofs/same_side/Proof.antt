@@ -1,6 +1,6 @@
 -- `search::same_side` meets its contract: by the sign of the first value.
 -- Assumes nothing.
-use mathlib.Core.Path.{_≡_, sym, _∙_}
+use mathlib.Core.Path.{sym}
 use Rattle.integers.specs.Bounds.{read}
 use Rattle.search.proofs.Laws.{side-above, side-below, side-neither}
 use Rattle.search.proofs.same_side.Statement.{statement}

@@ -1,6 +1,6 @@
 -- `steps::advance` meets its contract: x is the better end where it is at least as close to zero as its partner.
 -- Assumes nothing.
-use mathlib.Core.Path.{_≡_, sym, ap, _∙_}
+use mathlib.Core.Path.{sym, _∙_}
 use Rattle.rules.specs.Rules.{advanceOf}
 use borrow.Author.Needs.{needs}
 use Rattle.steps.proofs.advance.Statement.{statement}

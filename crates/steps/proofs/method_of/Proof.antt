@@ -1,7 +1,6 @@
 -- `steps::method_of` meets its contract: 0 is the house default, 1 is M, and 2, the only other number accepted, is R.
 -- Assumes nothing.
 use mathlib.Core.Path.{_≡_, sym, _∙_}
-use mathlib.Core.Bool.{true, false}
 use borrow.Author.Needs.{needs}
 use lib.IntN.{pos}
 use mir.Syntax.{w32}

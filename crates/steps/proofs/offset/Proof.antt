@@ -1,6 +1,6 @@
 -- `steps::offset` meets its contract: what a search that goes on has brings every number into the range of the estimates.
 -- Assumes nothing.
-use mathlib.Core.Path.{_≡_, sym, ap, _∙_}
+use mathlib.Core.Path.{_∙_}
 use native.Mathlib.Omega.{arith}
 use Rattle.rules.specs.Rules.{offsetOf}
 use Rattle.rules.specs.SearchLaws.{tolerance-most}

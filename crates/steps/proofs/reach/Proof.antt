@@ -1,6 +1,6 @@
 -- `steps::reach` meets its contract: each arm takes its estimate and its displacement as the definition does.
 -- Assumes nothing.
-use mathlib.Core.Path.{_≡_, sym, ap, _∙_}
+use mathlib.Core.Path.{ap, _∙_}
 use Prim.Native.Nat.{ℕ, _/_}
 use Rattle.rules.specs.Rules.{reachOf}
 use borrow.Author.Needs.{needs}
