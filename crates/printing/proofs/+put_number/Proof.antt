@@ -1,7 +1,7 @@
 -- `printing::put_number`, which calls itself, meets its contract: a number below 10 is one digit, and another is the digits of its
 -- tenth part and one more. The measure is the number.
 -- Assumes nothing.
-use Prim.Native.Nat.{ℕ, _+_, _/_, _≤_}
+use Prim.Native.Nat.{ℕ, _+_, _/_, _≤_, _<_}
 use mathlib.Core.Path.{_≡_, ap, _∙_}
 use native.Mathlib.Omega.{arith}
 use lib.ListN.{length, length-append}
