@@ -2,7 +2,7 @@
 -- trial book's, by the claim about whole runs.
 -- Assumes nothing.
 use Prim.Native.Nat.{ℕ, zero, suc, _+_, _*_, _-_, _/_, _≤_, _<_, min}
-use mathlib.Core.Path.{_≡_, refl, sym, ap, ap₂, subst, _∙_}
+use mathlib.Core.Path.{_≡_, refl, sym, ap, _∙_}
 use mathlib.Core.Bool.{Bool, true, false, cond}
 use mathlib.Core.List.{List, [], _∷_, _++_, map}
 use native.Mathlib.Nat.{sub-zero, sub-eq-zero-of-le, zero-add}
@@ -35,8 +35,12 @@ call-either k s a = go (eqb k 0)
     go true = refl
     go false = refl
 
+-- how many calls there are
+abbrev pub shortest : ℕ → List ℕ → List ℤ → List ℤ → ℕ
+shortest n ks xs vs = min (min n (length ks)) (min (length xs) (length vs))
+
 -- none where the bound or a list is at its end
-no-calls : (n : ℕ) (ks : List ℕ) (xs vs : List ℤ) → min (min n (length ks)) (min (length xs) (length vs)) ≡ 0 → callsUpTo n ks xs vs ≡ []
+no-calls : (n : ℕ) (ks : List ℕ) (xs vs : List ℤ) → shortest n ks xs vs ≡ 0 → callsUpTo n ks xs vs ≡ []
 unfolding callsUpTo
 no-calls zero ks xs vs e = refl
 no-calls (suc n) [] xs vs e = refl
@@ -113,14 +117,14 @@ module _ (s₀ : Search) (ks : List ℕ) (xs vs : List ℤ) (before : List ℕ) 
       let e : n - i ≡ suc (n - (i + 1)) = omega arith in
       rw (e, drop-cons ks i 0 hk, drop-cons xs i (pos 0) hx, drop-cons vs i (pos 0) hv, add-one i)
 
-  none-left : (i : ℕ) → min (min n (length ks)) (min (length xs) (length vs)) ≤ i → leftOf n ks xs vs i ≡ []
+  none-left : (i : ℕ) → shortest n ks xs vs ≤ i → leftOf n ks xs vs i ≡ []
   none-left i h =
       no-calls (n - i) (drop i ks) (drop i xs) (drop i vs)
       (rw (length-drop i ks, length-drop i xs, length-drop i vs, sub-min n (length ks) i, sub-min (length xs) (length vs) i, sub-min (min n (length ks)) (min (length xs) (length vs)) i)
       (sub-eq-zero-of-le h))
 
   module _ (i : ℕ) (s : Search) (out : List ℕ) (l : Led s₀ ks xs vs before i s out) where
-    pub led-more : i < min (min n (length ks)) (min (length xs) (length vs)) → (r : Entered) → r ≡ enterOf s (getD xs i (pos 0)) (getD vs i (pos 0))
+    pub led-more : i < shortest n ks xs vs → (r : Entered) → r ≡ enterOf s (getD xs i (pos 0)) (getD vs i (pos 0))
         → Led s₀ ks xs vs before (i + 1) (r .search) (sets out (5 * i) (codeOf (r .report)))
     unfolding searchAfter answersOf codes
     led-more h r e =
@@ -140,7 +144,7 @@ module _ (s₀ : Search) (ks : List ℕ) (xs vs : List ℤ) (before : List ℕ) 
               ∙ ap (λ (at : ℕ). sets (sets out (5 * i) (codeOf (r .report))) at (codes (answersOf (r .search) left))) five;
         }
 
-    pub led-end : min (min n (length ks)) (min (length xs) (length vs)) ≤ i
+    pub led-end : shortest n ks xs vs ≤ i
         → (s ≡ searchAfter s₀ (callsIn ks xs vs before)) × (out ≡ writtenOver (answersOf s₀ (callsIn ks xs vs before)) before)
     unfolding searchAfter answersOf codes
     led-end h =

@@ -62,9 +62,10 @@ fn lesser(a: usize, b: usize) -> usize
     if a < b { a } else { b }
 }
 
-// A fresh search of the opening, and then as many calls as the kinds, points and values are, each to the search that the one before
-// returned or left: kind 0 by value, any other into the search. The five numbers of each report are written to `answers` in turn. A
-// short `answers` ends the run early, before the first call whose report has no room; its further numbers keep their contents.
+// A fresh search of the opening, and then as many calls as the shortest of kinds, points and values allows, each to the search that
+// the one before returned or left: kind 0 by value, any other into the search. The five numbers of each report are written to
+// `answers` in turn. A short `answers` ends the run early, before the first call whose report has no room; its further numbers keep
+// their contents.
 // For an accepted opening the reports and the search are the trial book's. A refused one makes no fresh search: the calls are made to
 // the blank, which refuses each.
 pub fn replay(

@@ -14,7 +14,7 @@ use Rattle.integers.specs.Bounds.{read}
 use Rattle.rules.specs.declared.Report.{Report}
 use Rattle.held.specs.Held.{enterOf}
 use Rattle.replay.specs.Replay.{callsIn, writtenOver}
-use Rattle.replay.specs.ReplayLaws.{Led, led-begin, led-more, led-end, answers-told, search-held}
+use Rattle.replay.specs.ReplayLaws.{shortest, Led, led-begin, led-more, led-end, answers-told, search-held}
 use Rattle.replay.proofs.replay.Statement.{statement}
 use Rattle.replay.proofs.replay.Tie as tie
 
@@ -26,7 +26,7 @@ abbrev μ-loop : tie.MeasureT-loop
 
 -- the number of calls
 number : (c : tie.After-lesser3 Inv-loop μ-loop)
-    → let x = c .before .before .before .before .before .args in c .lesser3 .result ≡ min (min (length (x .answers .now) / 5) (length (x .kinds .now))) (min (length (x .points .now)) (length (x .values .now)))
+    → let x = c .before .before .before .before .before .args in c .lesser3 .result ≡ shortest (length (x .answers .now) / 5) (x .kinds .now) (x .points .now) (x .values .now)
 number c = c .lesser3 .ensures ∙ ap₂ min (c .before .before .lesser .ensures) (c .before .lesser2 .ensures)
 
 -- there is room for one report more
