@@ -60,6 +60,7 @@ use Rattle.host.proofs.search_open.Key.{name as #exported}
 use Rattle.host.proofs.search_open as f
 use Rattle.host.proofs.search_open.Statement as stated
 use Rattle.host.proofs.search_open.Code as code
+use Rattle.held.proofs.Walk.{number}
 
 abbrev Arg : Type 0
 Arg = RefT Search × (ℤ × (ℤ × (ℤ × (ℤ × Unit {0}))))
@@ -116,8 +117,8 @@ module _ {M : Type 1} (𝓤 : URA M) (H : Heap 𝓤) (A : Atoms 𝓤) (W : Given
 
   goes-step : ent 𝓤 (sem 𝓤 H A (T.the-row .own h (vals h))) (Step 𝓤 H A at-mem run .pre to-step)
   goes-step =
-      qed W (‵ (T.the-row .own h (vals h)) ∷ []) ∵ drop ! $ nothing ! $ owned ! i32 (Is i32) (sint-makes 𝓤 H A W w32) t _ t-is $ fjoin ! $ owned ! i32 (Is i32) (sint-makes 𝓤 H A W w32) z _ z-is $ fjoin ! $
-      owned ! i32 (Is i32) (sint-makes 𝓤 H A W w32) a _ a-is $ fjoin ! $ owned ! i32 (Is i32) (sint-makes 𝓤 H A W w32) m _ m-is $ fjoin ! $ nothing ! $ join ! $ frame ! $ done !
+      qed W (‵ (T.the-row .own h (vals h)) ∷ []) ∵ drop ! $ nothing ! $ number ! t t-is $ number ! z z-is $
+      number ! a a-is $ number ! m m-is $ nothing ! $ join ! $ frame ! $ done !
 
   -- the exit, at what the step returned
   exits : (r : Stepped) → r ≡ opened m a z t → Is R.the-row (r .numbers) (valsR (r .numbers))
@@ -127,8 +128,8 @@ module _ {M : Type 1} (𝓤 : URA M) (H : Heap 𝓤) (A : Atoms 𝓤) (W : Given
       suffices ! _ (ends-at 𝓤 H A f.ended stayed (f.clauses 𝓤 H A at-mem run) W (((κ, tt), (q, tt), tt, x, at), tt) (valR (r .numbers)) (r .numbers) (r .search, (tt, (tt, (tt, (tt, tt))))) (tt, (tt, (tt, (tt, (tt, tt)))))) $
       says ! (ap (λ (y : Stepped). y .numbers) e, ap (λ (y : Stepped). y .search) e) $ nothing ! $ move ! (3 ∷ 0 ∷ []) $ join ! $
       frame ! $ feqI ! (List Val) (vptr b o ∷ []) (vptr b o ∷ []) refl $ fjoin3 ! $ nothing ! $
-      owned ! i32 (Is i32) (sint-makes 𝓤 H A W w32) t _ t-is $ fjoin ! $ owned ! i32 (Is i32) (sint-makes 𝓤 H A W w32) z _ z-is $ fjoin ! $
-      owned ! i32 (Is i32) (sint-makes 𝓤 H A W w32) a _ a-is $ fjoin ! $ owned ! i32 (Is i32) (sint-makes 𝓤 H A W w32) m _ m-is $ fjoin ! $ move ! (1 ∷ 0 ∷ []) $ fjoin ! $ frame ! $
+      number ! t t-is $ number ! z z-is $
+      number ! a a-is $ number ! m m-is $ move ! (1 ∷ 0 ∷ []) $ fjoin ! $ frame ! $
       owned ! R.the-row (Is R.the-row) (LL.makes R.the-type R′.the-plain 𝓤 H A) (r .numbers) _ rep $ done !
 
   abbrev given : List Val
