@@ -37,10 +37,8 @@ use Rattle.held.specs.Held.{heldReport}
 use Rattle.host.specs.Numbers.{numbersOf}
 use Rattle.held.specs.declared.Search.{Search}
 use Rattle.host.specs.declared.Numbers.{Numbers}
-use Rattle.held.proofs.Search as T
-use Rattle.held.proofs.Search.Laws as T′
-use Rattle.host.proofs.Numbers as R
-use Rattle.host.proofs.Numbers.Laws as R′
+use Rattle.held.proofs.Search as S
+use Rattle.held.proofs.Search.Laws as S′
 use Rattle.host.proofs.held_numbers as step
 use Rattle.host.proofs.held_numbers.Symbol as step-def
 use Rattle.host.proofs.held_numbers.Symbol.{name as #step}
@@ -49,22 +47,22 @@ use Rattle.host.proofs.search_report.Key.{name as #of}
 use Rattle.host.proofs.search_report as f
 use Rattle.host.proofs.search_report.Statement as stated
 use Rattle.host.proofs.search_report.Code as code
-use Rattle.held.proofs.Walk.{answered, by-one-call}
+use Rattle.held.proofs.Walk.{row, vals, answered, by-one-call}
+use Rattle.held.proofs.Types.{search}
+use Rattle.host.proofs.Types.{numbers}
 
 abbrev Arg : Type 0
 Arg = RefT Search × Unit {0}
 
 abbrev stayed : Stays (f.ended .signature .params) (f.ended .kept)
-stayed = (stay-none-ref (0 ∷ []) tt (plain (λ _. T.the-row)) yes, tt)
-
-abbrev vals : Search → List Val
-vals = LL.vals T.the-type T′.the-laws
+stayed = (stay-none-ref (0 ∷ []) tt (plain (λ _. row search)) yes, tt)
 
 -- the contract that the proof cites
 abbrev Step : {M : Type 1} (𝓤 : URA M) (H : Heap 𝓤) (A : Atoms 𝓤) (at-mem : Memory → SProp 𝓤) (run : Routine → Fun 𝓤) → Contract 𝓤
 Step 𝓤 H A at-mem run = tripleOf 𝓤 H A step.signature (step.spec 𝓤 H A at-mem run)
 
-module _ {M : Type 1} (𝓤 : URA M) (H : Heap 𝓤) (A : Atoms 𝓤) (W : Given 𝓤 H A) (at-mem : Memory → SProp 𝓤) (run : Routine → Fun 𝓤) (κ : Lft) (q : Share) (b o : ℕ) (γ : GName) (h : Search) where
+module _ {M : Type 1} (𝓤 : URA M) (H : Heap 𝓤) (A : Atoms 𝓤) (W : Given 𝓤 H A) (at-mem : Memory → SProp 𝓤) (run : Routine → Fun 𝓤) (κ : Lft)
+    (q : Share) (b o : ℕ) (γ : GName) (h : Search) where
   abbrev x : Arg
   x = (record { ptr = (b, o); name = γ; now = h }, tt)
 
@@ -74,46 +72,61 @@ module _ {M : Type 1} (𝓤 : URA M) (H : Heap 𝓤) (A : Atoms 𝓤) (W : Given
   abbrev Post : Val → SProp 𝓤
   Post = walkOf 𝓤 H A f.ended stayed (f.clauses 𝓤 H A at-mem run) .post (((κ, tt), (q, tt), tt, x, at), tt)
 
+  -- what `held_numbers`' triple binds outside, and what it asks
   abbrev to-step : Step 𝓤 H A at-mem run .Ghost
-  to-step = ((tt, tt, tt, (h, tt), (vals h, tt)), tt)
+  to-step = ((tt, tt, tt, (h, tt), (vals search h, tt)), tt)
 
-  goes-step : ent 𝓤 (sem 𝓤 H A (T.the-row .own h (vals h))) (Step 𝓤 H A at-mem run .pre to-step)
-  goes-step = qed W (‵ (T.the-row .own h (vals h)) ∷ []) ∵ nothing ! $ move ! (1 ∷ 0 ∷ []) $ fjoin ! $ nothing ! $ join ! $ frame ! $ done !
+  goes-step : ent 𝓤 (sem 𝓤 H A (row search .own h (vals search h))) (Step 𝓤 H A at-mem run .pre to-step)
+  goes-step = qed W (‵ (row search .own h (vals search h)) ∷ []) ∵ nothing ! $ move ! (1 ∷ 0 ∷ []) $ fjoin ! $ nothing ! $ join ! $ frame ! $ done !
 
-  exits : (n : Numbers) (w : Val) → n ≡ numbersOf (heldReport h) → ent 𝓤 (⋆ 𝓤 H A (‵ (flft κ q) ∷ ‵ (fres γ (T.the-row .coded .code h)) ∷ ‵ (fshr-bor κ (λ s. partAt T.the-row s h b o)) ∷ ‵ (R.the-row .own n (w ∷ [])) ∷ [])) (Post w)
+  -- the exit, at what `held_numbers` returned
+  exits : (n : Numbers) (w : Val) → n ≡ numbersOf (heldReport h)
+      → ent 𝓤 (⋆ 𝓤 H A (‵ (flft κ q) ∷ ‵ (fres γ (row search .coded .code h)) ∷ ‵ (fshr-bor κ (λ s. partAt (row search) s h b o))
+      ∷ ‵ (row numbers .own n (w ∷ [])) ∷ [])) (Post w)
   exits n w e =
-      qed W (‵ (flft κ q) ∷ ‵ (fres γ (T.the-row .coded .code h)) ∷ ‵ (fshr-bor κ (λ s. partAt T.the-row s h b o)) ∷ ‵ (R.the-row .own n (w ∷ [])) ∷ []) ∵
-      suffices ! _ (ends-at 𝓤 H A f.ended stayed (f.clauses 𝓤 H A at-mem run) W (((κ, tt), (q, tt), tt, x, at), tt) w n (tt, tt) (tt, tt)) $ says ! e $
-      nothing ! $ move ! (1 ∷ 0 ∷ []) $ join ! $ frame ! $ feqI ! (List Val) (vptr b o ∷ []) (vptr b o ∷ []) refl $ fjoin3 ! $ nothing ! $ move ! (1 ∷ 0 ∷ []) $ fjoin ! $ frame ! $ done !
+      qed W (‵ (flft κ q) ∷ ‵ (fres γ (row search .coded .code h)) ∷ ‵ (fshr-bor κ (λ s. partAt (row search) s h b o))
+      ∷ ‵ (row numbers .own n (w ∷ [])) ∷ []) ∵
+      suffices ! _ (ends-at 𝓤 H A f.ended stayed (f.clauses 𝓤 H A at-mem run) W (((κ, tt), (q, tt), tt, x, at), tt) w n (tt, tt) (tt, tt)) $
+      says ! e $
+      nothing ! $ move ! (1 ∷ 0 ∷ []) $ join ! $ frame ! $ feqI ! (List Val) (vptr b o ∷ []) (vptr b o ∷ []) refl $ fjoin3 ! $ nothing ! $
+      move ! (1 ∷ 0 ∷ []) $ fjoin ! $ frame ! $ done !
 
   module _ (C : Calls 𝓤 H) (Λ : Loops 𝓤 H) (fm : FmC 𝓤 H (W .laws) C) (known : Triple 𝓤 (C #step) (Step 𝓤 H A at-mem run)) where
     walk : ent 𝓤 (onEntry 𝓤 H A f.signature (κ, tt) (q, tt) x at) (WpFn 𝓤 H C Λ code.function (vptr b o ∷ []) Post)
     walk =
-        qed W ((‵ (flft κ q) ⊛ ‵ ftrue) ∷ ‵ (owns (ShrRef (named 0) κ T.the-row ∷ []) x at) ∷ []) ∵ enter ! C Λ code.function (vptr b o ∷ []) _ $
+        qed W ((‵ (flft κ q) ⊛ ‵ ftrue) ∷ ‵ (owns (ShrRef (named 0) κ (row search) ∷ []) x at) ∷ []) ∵ enter ! C Λ code.function (vptr b o ∷ []) _ $
         alloc1 ! (λ l₀. alloc1 ! (λ l₁. alloc1 ! (λ l₂. alloc0 ! $ params1 ! $ pass1 ! (init ! 2 refl (tt, tt)) $ pass0 ! $
         -- [_2; …; _1; …; room for _0; …; the token and true; what the parameter owns]
         move ! (7 ∷ []) $ fsplit ! $ fsplit3 ! $ drop ! $ move ! (9 ∷ []) $ split ! $ move ! (3 ∷ 0 ∷ []) $
-        looks ! tt T.the-row (Is T.the-row) (shows 𝓤 H A T.the-row) vals (LL.tells T.the-type T′.the-laws) (LL.copy T.the-type T′.the-copy 𝓤 H A W) h b o (λ q′ vs.
-        spelt ! T.the-row (Is T.the-row) (shows 𝓤 H A T.the-row) vals (LL.tells T.the-type T′.the-laws) q′ h vs b o $ move ! (1 ∷ []) $ peeks ! T.the-row (Is T.the-row) (shows 𝓤 H A T.the-row) h (vals h) (λ was. move ! (1 ∷ 0 ∷ []) $
-        -- [a share of the struct's cell; what a Search owns; what shuts it; the fractured borrow; true; res; true; _2 (7); …; _1 (9); …; room for _0 (11); …]
-        assigns ! (of-opd ! (load ! (from ! (hop ! (look ! 9 refl) (stop !))) (look-raw ! 0 refl))) (from ! (stop !)) (init ! 7 refl (LL.lawful T.the-type T′.the-laws 𝓤 H A W .typed h _ was .0)) $
-        shuts ! tt T.the-row q′ h (vals h) b o $
+        looks ! tt (row search) (Is (row search)) (shows 𝓤 H A (row search)) (vals search) (search .tells) (LL.copy S.the-type S′.the-copy 𝓤 H A W) h b o (λ q′ vs.
+        spelt ! (row search) (Is (row search)) (shows 𝓤 H A (row search)) (vals search) (search .tells) q′ h vs b o $ move ! (1 ∷ []) $
+        peeks ! (row search) (Is (row search)) (shows 𝓤 H A (row search)) h (vals search h) (λ was. move ! (1 ∷ 0 ∷ []) $
+        -- [a share of the struct's cell; what a Search owns; what shuts it; the fractured borrow; true; res; true; _2 (7); …; _1 (9); …;
+        -- room for _0 (11); …]
+        assigns ! (of-opd ! (load ! (from ! (hop ! (look ! 9 refl) (stop !))) (look-raw ! 0 refl))) (from ! (stop !))
+        (init ! 7 refl (search .lawful 𝓤 H A W .typed h _ was .0)) $
+        shuts ! tt (row search) q′ h (vals search h) b o $
         -- [the token; the fractured borrow; true; res; true; _2 (5); …; _1 (7); …; room for _0 (9); …]
-        owned ! T.the-row (Is T.the-row) (LL.makes T.the-type T′.the-plain 𝓤 H A) h _ was $ use1 W (raw (Step 𝓤 H A at-mem run .pre to-step)) goes-step $
+        owned ! (row search) (Is (row search)) (search .makes 𝓤 H A) h _ was $ use1 W (raw (Step 𝓤 H A at-mem run .pre to-step)) goes-step $
         calls-at ! fm (Step 𝓤 H A at-mem run) known to-step (and-then ! (load ! (from ! (stop !)) (look ! 6 refl)) (no-more !)) (λ w.
         answered ! tt step.ended (step.clauses 𝓤 H A at-mem run) to-step w (λ (n : Numbers). n ≡ numbersOf (heldReport h)) (λ r ws. id⊢ 𝓤 _) (λ n e n-is.
         -- [what the result owns; the token; the fractured borrow; true; res; true; _2 (6); …; _1 (8); …; room for _0 (10); …]
-        land ! (from ! (stop !)) (init ! 10 refl (LL.lawful R.the-type R′.the-laws 𝓤 H A W .typed n _ n-is .0)) $
-        returns ! (look ! 10 refl) $ forget ! 6 refl $ forget ! 8 refl $ forget ! 10 refl $ move ! (10 ∷ 11 ∷ []) $ free1 ! $ move ! (8 ∷ 9 ∷ []) $ free1 ! $ move ! (6 ∷ 7 ∷ []) $ free1 ! $ free0 ! $
+        land ! (from ! (stop !)) (init ! 10 refl (numbers .lawful 𝓤 H A W .typed n _ n-is .0)) $
+        returns ! (look ! 10 refl) $ forget ! 6 refl $ forget ! 8 refl $ forget ! 10 refl $ move ! (10 ∷ 11 ∷ []) $ free1 ! $ move ! (8 ∷ 9 ∷ []) $
+        free1 ! $ move ! (6 ∷ 7 ∷ []) $ free1 ! $ free0 ! $
         keep ! (1 ∷ 4 ∷ 2 ∷ 0 ∷ []) $ by ! (exits n w e))))))))
 
 module _ {M : Type 1} (𝓤 : URA M) (H : Heap 𝓤) (A : Atoms 𝓤) (W : Given 𝓤 H A) (at-mem : Memory → SProp 𝓤) (run : Routine → Fun 𝓤) where
-  walks : (C : Calls 𝓤 H) (Λ : Loops 𝓤 H) → FmC 𝓤 H (W .laws) C → Triple 𝓤 (C #step) (Step 𝓤 H A at-mem run) → Walks 𝓤 H A f.ended stayed (WpFn 𝓤 H C Λ code.function) (f.clauses 𝓤 H A at-mem run)
-  walks C Λ fm known = walked 𝓤 H A f.ended stayed (f.clauses 𝓤 H A at-mem run) (WpFn 𝓤 H C Λ code.function) (λ κs. (ptr-vals, tt)) (λ κs. (shr-tells (named 0) (κs .0) T.the-row, tt))
-      (λ κs qs bounds a _ are. via 𝓤 _ (fst∗ 𝓤 _ (emp 𝓤)) (walk 𝓤 H A W at-mem run (κs .0) (qs .0) (a .0 .ptr .0) (a .0 .ptr .1) (a .0 .name) (a .0 .now) C Λ fm known))
+  walks : (C : Calls 𝓤 H) (Λ : Loops 𝓤 H) → FmC 𝓤 H (W .laws) C → Triple 𝓤 (C #step) (Step 𝓤 H A at-mem run)
+      → Walks 𝓤 H A f.ended stayed (WpFn 𝓤 H C Λ code.function) (f.clauses 𝓤 H A at-mem run)
+  walks C Λ fm known =
+      walked 𝓤 H A f.ended stayed (f.clauses 𝓤 H A at-mem run) (WpFn 𝓤 H C Λ code.function) (λ κs. (ptr-vals, tt))
+      (λ κs. (shr-tells (named 0) (κs .0) (row search), tt))
+      (λ κs qs bounds a _ are. via 𝓤 _ (fst∗ 𝓤 _ (emp 𝓤))
+      (walk 𝓤 H A W at-mem run (κs .0) (qs .0) (a .0 .ptr .0) (a .0 .ptr .1) (a .0 .name) (a .0 .now) C Λ fm known))
 
   goes : AllGo 𝓤 H A W 1 (f.signature .params) (f.ended .kept) stayed
-  goes = (goes-none-ref 𝓤 H A W 1 (0 ∷ []) tt (plain (λ _. T.the-row)) yes, tt)
+  goes = (goes-none-ref 𝓤 H A W 1 (0 ∷ []) tt (plain (λ _. row search)) yes, tt)
 
 pub search-report-spec : {M : Type 1} → stated.statement M
 unfolding code.routine
