@@ -142,7 +142,8 @@ pub extern "C" fn search_open(
     second: i32,
     tolerance: i32,
 ) -> Numbers
-    ensures { λ r. ⌜ (r ≡ numbersOf ((openOf (openingOf method first second tolerance)) .report)) × (now (search .exit) ≡ (openOf (openingOf method first second tolerance)) .search) ⌝ }
+    ensures { λ r. ⌜ (r ≡ numbersOf ((openOf (openingOf method first second tolerance)) .report))
+        × (now (search .exit) ≡ (openOf (openingOf method first second tolerance)) .search) ⌝ }
 {
     let e = step_open(method, first, second, tolerance);
     *search = e.search;
@@ -160,7 +161,8 @@ pub extern "C" fn search_report(search: &Search) -> Numbers
 // Enters an answer into the host's search, or refuses it.
 #[no_mangle]
 pub extern "C" fn search_enter(search: &mut Search, point: i32, value: i32) -> Numbers
-    ensures { λ r. ⌜ (r ≡ numbersOf ((enterOf (now (search .entry)) point value) .report)) × (now (search .exit) ≡ (enterOf (now (search .entry)) point value) .search) ⌝ }
+    ensures { λ r. ⌜ (r ≡ numbersOf ((enterOf (now (search .entry)) point value) .report))
+        × (now (search .exit) ≡ (enterOf (now (search .entry)) point value) .search) ⌝ }
 {
     let e = step_enter(*search, point, value);
     *search = e.search;

@@ -20,7 +20,13 @@ returns : tie.Need-returns
 returns c =
     let s = c .before .before .before in
     c .quote-numbers .ensures
-    ∙ ap quoteNumbers (rw (c .before .before .opening-of .ensures, toZ-ofZ (s .fits .method), toZ-ofZ (s .fits .first), toZ-ofZ (s .fits .second), toZ-ofZ (s .fits .tolerance)) at (c .before .quote .ensures))
+    ∙ ap quoteNumbers (rw (
+      c .before .before .opening-of .ensures,
+      toZ-ofZ (s .fits .method),
+      toZ-ofZ (s .fits .first),
+      toZ-ofZ (s .fits .second),
+      toZ-ofZ (s .fits .tolerance),
+    ) at (c .before .quote .ensures))
 
 pub search-quote-spec : {M : Type 1} → statement M
 search-quote-spec = tie.close (tie.spec opening-of-requires quote-requires quote-numbers-requires returns)

@@ -20,7 +20,13 @@ returns : tie.Need-returns
 returns c =
     let s = c .before .before .before in
     c .report-numbers .ensures
-    ∙ ap numbersOf (rw (c .before .before .opening-of .ensures, toZ-ofZ (s .fits .method), toZ-ofZ (s .fits .first), toZ-ofZ (s .fits .second), toZ-ofZ (s .fits .tolerance)) at (c .before .report-on .ensures))
+    ∙ ap numbersOf (rw (
+      c .before .before .opening-of .ensures,
+      toZ-ofZ (s .fits .method),
+      toZ-ofZ (s .fits .first),
+      toZ-ofZ (s .fits .second),
+      toZ-ofZ (s .fits .tolerance),
+    ) at (c .before .report-on .ensures))
 
 pub search-values-spec : {M : Type 1} → statement M
 search-values-spec = tie.close (tie.spec opening-of-requires report-on-requires report-numbers-requires returns)

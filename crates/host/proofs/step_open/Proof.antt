@@ -20,7 +20,13 @@ returns : tie.Need-returns
 returns c =
     let s = c .before .before .before in
     c .in-numbers .ensures
-    ∙ ap inNumbers (rw (c .before .before .opening-of .ensures, toZ-ofZ (s .fits .method), toZ-ofZ (s .fits .first), toZ-ofZ (s .fits .second), toZ-ofZ (s .fits .tolerance)) at (c .before .fresh .ensures))
+    ∙ ap inNumbers (rw (
+      c .before .before .opening-of .ensures,
+      toZ-ofZ (s .fits .method),
+      toZ-ofZ (s .fits .first),
+      toZ-ofZ (s .fits .second),
+      toZ-ofZ (s .fits .tolerance),
+    ) at (c .before .fresh .ensures))
 
 pub step-open-spec : {M : Type 1} → statement M
 step-open-spec = tie.close (tie.spec opening-of-requires fresh-requires in-numbers-requires returns)
