@@ -67,6 +67,14 @@ struct numbers search_report(const struct search *search);
  * search after it. A refused one changes nothing; its index is the count. */
 struct numbers search_enter(struct search *search, int32_t point, int32_t value);
 
+/* The same by value: the report, and beside it the search as it then is; the one that was passed stays. */
+struct stepped {
+    struct numbers numbers;
+    struct search search;
+};
+
+struct stepped search_entered(struct search search, int32_t point, int32_t value);
+
 /* The report on an opening and the values answered so far, of any length, in the order called for. `values` points to `length` numbers,
  * and is not NULL even where `length` is 0. */
 struct numbers search_values(int32_t method, int32_t first, int32_t second, int32_t tolerance, const int32_t *values, size_t length);

@@ -2,7 +2,7 @@
 //! is linked and plain.rs answers.
 
 #[cfg(feature = "standin")]
-pub use crate::plain::{enter, open, quote, report, sheet, values};
+pub use crate::plain::{enter, entered, open, quote, report, sheet, values};
 
 /// Who answers.
 #[cfg(feature = "standin")]
@@ -13,11 +13,11 @@ pub const WHO: &str = "NOT the proved library but its stand-in, plain.rs";
 pub const WHO: &str = "the proved library, target/staticlib/libhost.a";
 
 #[cfg(not(feature = "standin"))]
-pub use library::{enter, open, quote, report, sheet, values};
+pub use library::{enter, entered, open, quote, report, sheet, values};
 
 #[cfg(not(feature = "standin"))]
 mod library {
-    use crate::types::{Numbers, Opening, Search};
+    use crate::types::{Numbers, Opening, Search, Stepped};
 
     extern "C" {
         fn search_open(
@@ -29,6 +29,7 @@ mod library {
         ) -> Numbers;
         fn search_report(search: *const Search) -> Numbers;
         fn search_enter(search: *mut Search, point: i32, value: i32) -> Numbers;
+        fn search_entered(search: Search, point: i32, value: i32) -> Stepped;
         fn search_values(
             method: i32,
             first: i32,
@@ -63,6 +64,12 @@ mod library {
     pub fn enter(search: &mut Search, point: i32, value: i32) -> Numbers {
         // The reference is to a whole search that nobody else reads or writes.
         unsafe { search_enter(search, point, value) }
+    }
+
+    /// The same by value.
+    pub fn entered(search: Search, point: i32, value: i32) -> Stepped {
+        // A search goes in by value and comes out so.
+        unsafe { search_entered(search, point, value) }
     }
 
     /// The report of the search over a list of values.

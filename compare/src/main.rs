@@ -236,8 +236,14 @@ fn call_agrees(
 ) -> Checked {
     let before = *search;
     let input = || search_as_sheet(&before, Call::Enter(point, value));
+    let stepped = ffi::entered(before, point, value);
     let reports = (book.offer(point, value), ffi::enter(search, point, value));
     agree_on_report(book.opening(), reports, tally, input)?;
+    agree(
+        (reports.0, book.search()),
+        (stepped.numbers, stepped.search),
+        input,
+    )?;
     search_agrees(book, ffi::report(search), search, tally, input)
 }
 
@@ -285,6 +291,10 @@ fn junk_run(rng: &mut Rng, tally: &mut Tally) -> Checked {
         let input = || search_as_sheet(&before, call);
         agree_on_report(&model.opening, reports, tally, input)?;
         agree(model, library, input)?;
+        if let Call::Enter(point, value) = call {
+            let stepped = ffi::entered(before, point, value);
+            agree((reports.0, model), (stepped.numbers, stepped.search), input)?;
+        }
         let reports = (model::report(&model), ffi::report(&library));
         let input = || search_as_sheet(&model, Call::Report);
         agree_on_report(&model.opening, reports, tally, input)?;

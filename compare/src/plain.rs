@@ -1,7 +1,7 @@
 //! The same search as a Rust programmer would write it for speed: a running state, 64-bit
 //! arithmetic, nothing on the heap. It is the benchmark's baseline and the library's stand-in.
 
-use crate::types::{Numbers, Opening, Search, SLOTS};
+use crate::types::{Numbers, Opening, Search, Stepped, SLOTS};
 
 const HIGHEST_POINT: i32 = 20_000;
 const LARGEST_TOLERANCE: i32 = 5_000;
@@ -293,6 +293,12 @@ pub fn enter(search: &mut Search, point: i32, value: i32) -> Numbers {
         }
         Err(number) => Numbers::refuse(number, search.count),
     }
+}
+
+/// The same by value.
+pub fn entered(mut search: Search, point: i32, value: i32) -> Stepped {
+    let numbers = enter(&mut search, point, value);
+    Stepped { numbers, search }
 }
 
 /// The report of the search over a list of values.

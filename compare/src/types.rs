@@ -61,6 +61,14 @@ pub struct Numbers {
     pub d: u32,
 }
 
+/// A report, and beside it the search as it then is.
+#[repr(C)]
+#[derive(Clone, Copy, Debug, PartialEq, Eq)]
+pub struct Stepped {
+    pub numbers: Numbers,
+    pub search: Search,
+}
+
 impl Numbers {
     pub const NEXT: u32 = 1;
     pub const STOP: u32 = 2;

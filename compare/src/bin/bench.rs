@@ -3,7 +3,7 @@
 #![forbid(unsafe_code)]
 
 use compare::rng::Rng;
-use compare::types::{Numbers, Opening, Search};
+use compare::types::{Numbers, Opening, Search, Stepped};
 use compare::{beam, cases, ffi, model, plain, sheets};
 use std::hint::black_box;
 use std::time::Instant;
@@ -37,18 +37,21 @@ impl Work {
 #[derive(Clone, Copy)]
 struct Calls {
     enter: fn(&mut Search, i32, i32) -> Numbers,
+    entered: fn(Search, i32, i32) -> Stepped,
     values: fn(&Opening, &[i32]) -> Numbers,
     sheet: fn(&[u8]) -> Numbers,
 }
 
 const LIBRARY: Calls = Calls {
     enter: ffi::enter,
+    entered: ffi::entered,
     values: ffi::values,
     sheet: ffi::sheet,
 };
 
 const PLAIN: Calls = Calls {
     enter: plain::enter,
+    entered: plain::entered,
     values: plain::values,
     sheet: plain::sheet,
 };
@@ -64,7 +67,7 @@ fn main() {
         "An answer is entered into a search that holds the ones before it, each walked again."
     );
     let mut rng = Rng::new(SEED);
-    println!("\noperation                          library ns    plain ns  library/plain");
+    println!("\noperation                            library ns    plain ns  library/plain");
     table("usual", &usual(&mut rng));
     table("long", &long(&mut rng));
 }
@@ -87,13 +90,19 @@ fn long(rng: &mut Rng) -> Vec<Work> {
     works
 }
 
-/// Three lines of the table.
+/// Four lines of the table.
 fn table(kind: &str, works: &[Work]) {
     let searches = works.len();
     let answers: usize = works.iter().map(|work| work.values.len()).sum();
     let mean = answers as f64 / searches as f64;
     println!("{searches} {kind} searches of {mean:.1} answers in the mean:");
-    line("  an answer entered", works, answers, entering);
+    line(
+        "  an answer, into the host's search",
+        works,
+        answers,
+        entering,
+    );
+    line("  an answer, by value", works, answers, entering_by_value);
     line("  a list of values", works, searches, listing);
     line("  a sheet", works, searches, reading);
 }
@@ -108,7 +117,7 @@ fn line(name: &str, works: &[Work], operations: usize, timed: Timed) {
     }
     let (library, plain) = (median(library), median(plain));
     let ratio = library / plain;
-    println!("{name:<33} {library:>11.1} {plain:>11.1} {ratio:>14.2}");
+    println!("{name:<35} {library:>11.1} {plain:>11.1} {ratio:>14.2}");
 }
 
 fn median(mut list: Vec<f64>) -> f64 {
@@ -124,6 +133,23 @@ fn entering(calls: Calls, works: &[Work]) -> f64 {
     for (search, work) in searches.iter_mut().zip(works) {
         for &(point, value) in &work.answers {
             black_box((calls.enter)(search, black_box(point), black_box(value)));
+        }
+    }
+    let time = start.elapsed();
+    black_box(&searches);
+    time.as_nanos() as f64
+}
+
+/// The same, each search passed and returned by value.
+fn entering_by_value(calls: Calls, works: &[Work]) -> f64 {
+    let fresh = |work: &Work| Search::fresh(work.opening);
+    let mut searches: Vec<Search> = works.iter().map(fresh).collect();
+    let start = Instant::now();
+    for (search, work) in searches.iter_mut().zip(works) {
+        for &(point, value) in &work.answers {
+            let stepped = (calls.entered)(*search, black_box(point), black_box(value));
+            *search = stepped.search;
+            black_box(stepped.numbers);
         }
     }
     let time = start.elapsed();

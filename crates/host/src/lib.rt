@@ -23,6 +23,7 @@ pub struct Numbers {
 }
 
 // A report as numbers, and beside it the search as it then is.
+#[repr(C)]
 pub struct Stepped {
     pub numbers: Numbers,
     pub search: Search,
@@ -167,6 +168,14 @@ pub extern "C" fn search_enter(search: &mut Search, point: i32, value: i32) -> N
     let e = step_enter(*search, point, value);
     *search = e.search;
     e.numbers
+}
+
+// Enters an answer into a search that is passed by value: the report, and the search as it then is.
+#[no_mangle]
+pub extern "C" fn search_entered(held: Search, point: i32, value: i32) -> Stepped
+    ensures { λ r. ⌜ r ≡ inNumbers (enterOf held point value) ⌝ }
+{
+    step_enter(held, point, value)
 }
 
 // The report on an opening and a list of values, of any length.
