@@ -84,16 +84,15 @@ pub fn replay(
         lesser(answers.len() / 5, kinds.len()),
         lesser(points.len(), values.len()),
     );
-    let begun = Search::fresh(opening);
-    let mut search = begun.search;
+    let mut last = Search::fresh(opening);
     let mut i = 0;
     while i < n {
-        let e = call(kinds[i], search, points[i], values[i]);
-        let report = e.report;
+        let search = last.search;
+        let next = call(kinds[i], search, points[i], values[i]);
+        let report = next.report;
         put_report(answers, 5 * i, report);
-        let next = e.search;
-        search = next;
+        last = next;
         i += 1;
     }
-    search
+    last.search
 }

@@ -19,10 +19,10 @@ use Rattle.replay.proofs.replay.Statement.{statement}
 use Rattle.replay.proofs.replay.Tie as tie
 
 abbrev Inv-loop : tie.InvT-loop
-Inv-loop kinds points values answers₀ n search₀ i₀ answers search i = (i ≤ n) × Led search₀ kinds points values answers₀ i search answers
+Inv-loop kinds points values answers₀ n last₀ i₀ answers last i = (i ≤ n) × Led (last₀ .search) kinds points values answers₀ i (last .search) answers
 
 abbrev μ-loop : tie.MeasureT-loop
-μ-loop kinds points values answers₀ n search₀ i₀ answers search i = n - i
+μ-loop kinds points values answers₀ n last₀ i₀ answers last i = n - i
 
 -- the number of calls
 number : (c : tie.After-lesser3 Inv-loop μ-loop)
@@ -31,13 +31,13 @@ number c = c .lesser3 .ensures ∙ ap₂ min (c .before .before .lesser .ensures
 
 -- there is room for one report more
 room : (c : tie.In-loop Inv-loop μ-loop) → 5 * c .before .loop .i + 5 ≤ length (c .before .loop .answers)
-room c = omega (arith, number (c .before .before .before .before), c .loop-test .taken, c .before .loop .inv .1 .same)
+room c = omega (arith, number (c .before .before .before), c .loop-test .taken, c .before .loop .inv .1 .same)
 
 -- the call enters the next point and value
 entered : (c : tie.After-call Inv-loop μ-loop)
-    → let l = c .before .before .before .before .before .loop in let x = c .before .before .before .before .before .before .before .before .before .before .before .before .before .args in c .call .result ≡ enterOf (l .search) (getD (x .points .now) (l .i) (pos 0)) (getD (x .values .now) (l .i) (pos 0))
+    → let l = c .before .before .before .before .before .before .loop in let x = c .before .before .before .before .before .before .before .before .before .before .before .before .before .args in c .call .result ≡ enterOf (l .last .search) (getD (x .points .now) (l .i) (pos 0)) (getD (x .values .now) (l .i) (pos 0))
 entered c =
-    let l = c .before .before .before .before .before .loop in
+    let l = c .before .before .before .before .before .before .loop in
     let x = c .before .before .before .before .before .before .before .before .before .before .before .before .before .args in
     let f : SFits w32 (getD (x .points .now) (l .i) (pos 0)) = search needs in
     let g : SFits w32 (getD (x .values .now) (l .i) (pos 0)) = search needs in
@@ -57,8 +57,8 @@ fresh-requires c κs = search needs
 
 loop-holds : tie.Need-loop-holds Inv-loop μ-loop
 loop-holds c =
-    let s = c .before .before .before .before .before .before .before .args in
-    (omega arith, led-begin (c .before .fresh .result .search) (s .kinds .now) (s .points .now) (s .values .now) (s .answers .now))
+    let s = c .before .before .before .before .before .before .args in
+    (omega arith, led-begin (c .fresh .result .search) (s .kinds .now) (s .points .now) (s .values .now) (s .answers .now))
 
 shared-slice-read-call : tie.Need-shared-slice-read-call Inv-loop μ-loop
 shared-slice-read-call c = search needs
@@ -79,10 +79,10 @@ call-requires : tie.Need-call-requires Inv-loop μ-loop
 call-requires c κs = search needs
 
 mul-put-report : tie.Need-mul-put-report Inv-loop μ-loop
-mul-put-report c = omega (arith, room (c .before .before .before .before .before), c .before .before .before .before .before .before .before .before .before .before .before .before .before .before .good)
+mul-put-report c = omega (arith, room (c .before .before .before .before .before .before), c .before .before .before .before .before .before .before .before .before .before .before .before .before .before .good)
 
 put-report-requires : tie.Need-put-report-requires Inv-loop μ-loop
-put-report-requires c κs = room (c .before .before .before .before .before)
+put-report-requires c κs = room (c .before .before .before .before .before .before)
 
 add-i : tie.Need-add-i Inv-loop μ-loop
 add-i c = search needs
@@ -94,21 +94,21 @@ loop-again : tie.Need-loop-again Inv-loop μ-loop
 loop-again c =
     let t = c .before .before .before .before .before .before .before .before .before in
     let l = t .before .loop in
-    let called = c .before .before .before .before .before in (
+    let called = c .before .before .before .before in (
       omega arith,
-      subst (Led _ _ _ _ _ (l .i + 1) (called .call .result .search)) (sym (c .before .before .before .put-report .ensures))
-          (led-more _ _ _ _ _ (l .i) (l .search) (l .answers) (l .inv .1) (subst (λ (n : ℕ). l .i < n) (number (t .before .before .before .before)) (t .loop-test .taken)) (called .call .result) (entered called)),
+      subst (Led _ _ _ _ _ (l .i + 1) (called .call .result .search)) (sym (c .before .before .put-report .ensures))
+          (led-more _ _ _ _ _ (l .i) (l .last .search) (l .answers) (l .inv .1) (subst (λ (n : ℕ). l .i < n) (number (t .before .before .before)) (t .loop-test .taken)) (called .call .result) (entered called)),
     )
 
 same-length : tie.Need-same-length Inv-loop μ-loop
-same-length c = c .before .loop .inv .1 .same
+same-length c = c .before .before .loop .inv .1 .same
 
 returns : tie.Need-returns Inv-loop μ-loop
 returns c =
     let fresh = c .before .before .before in
     let x = fresh .before .before .before .before .before .before .args in
-    let l = c .before .loop in
-    let done = rw (fresh .fresh .ensures) at (led-end _ _ _ _ _ (l .i) (l .search) (l .answers) (l .inv .1) (subst (λ (n : ℕ). n ≤ l .i) (number (fresh .before)) (c .loop-test .left))) in
+    let l = c .before .before .loop in
+    let done = rw (fresh .fresh .ensures) at (led-end _ _ _ _ _ (l .i) (l .last .search) (l .answers) (l .inv .1) (subst (λ (n : ℕ). n ≤ l .i) (number (fresh .before)) (c .before .loop-test .left))) in
     let calls = callsIn (x .kinds .now) (x .points .now) (x .values .now) (x .answers .now) in (
       done .0,
       (
