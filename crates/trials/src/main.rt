@@ -283,6 +283,18 @@ fn answer_records() {
     sheet_of(b"73 answer records: ", text);
 }
 
+// Document 01's own sheet, and the same with another setting last.
+fn worked_sheets() {
+    sheet_of(
+        b"43,1 last: ",
+        b"1,0,100,1\r\n0,-50\r\n100,100\r\n33,-10\r\n41,-2\r\n43,1\r\n",
+    );
+    sheet_of(
+        b"42,1 last: ",
+        b"1,0,100,1\r\n0,-50\r\n100,100\r\n33,-10\r\n41,-2\r\n42,1\r\n",
+    );
+}
+
 fn main() {
     first_starred();
     more_starred();
@@ -304,4 +316,5 @@ fn main() {
     refused_answers();
     too_long();
     answer_records();
+    worked_sheets();
 }
