@@ -1,4 +1,5 @@
 -- The modules of `proofs/`.
 pub mod Walk
-pub mod Into
+pub mod Element
 pub mod Types
+pub mod Slot

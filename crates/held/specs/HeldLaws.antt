@@ -1,4 +1,4 @@
--- The laws of held searches: what is known of where one stands, that a slot is free for every answer that is accepted, that slots
+-- The laws of held searches: that a slot is free for every answer that is accepted, that slots
 -- at or past the count never alter a report, and that a blank is refused by every call.
 -- Assumes nothing.
 use Prim.Native.Nat.{ℕ, _+_, _≤_, _<_}
@@ -7,37 +7,31 @@ use mathlib.Core.Bool.{Bool, true, false, cond}
 use mathlib.Core.List.{List, [], _∷_, _++_}
 use native.Mathlib.Numerals.{add-one}
 use native.Mathlib.Omega.{arith}
-use borrow.Author.Tests.{ltb-false, le-ltb}
-use lib.Dec.{ltb, eqb}
-use lib.IntN.{ℤ}
-use lib.ListN.{length}
-use lib.Seq.{take-suc-set, length-take-le}
+use borrow.Author.Tests.{ltb-false, le-ltb, eq-eqb, ne-eqb}
+use lib.Dec.{ltb}
+use lib.IntN.{ℤ, pos}
+use lib.ListN.{length, getD, set}
+use lib.Seq.{take-suc-set, length-take-le, set-getD}
 use Rattle.integers.specs.Signs.{never}
 use Rattle.rules.specs.declared.Opening.{Opening}
 use Rattle.rules.specs.declared.Progress.{Progress}
 use Rattle.rules.specs.declared.Report.{Report}
-use Rattle.rules.specs.Rules.{slots}
+use Rattle.rules.specs.Rules.{slots, firstOf}
 use Rattle.rules.specs.Refusals.{openingRefusal}
 use Rattle.rules.specs.Search.{isRefused, otherAt, beginOf, offerOf, progressOf, reportAt, reportOf}
-use Rattle.rules.specs.SearchLaws.{SoundAt, sound, sound-offer, accepted-more, accepted-room, taken-is}
+use Rattle.rules.specs.SearchLaws.{accepted-more, accepted-room, taken-is}
 use Rattle.held.specs.declared.Search.{Search}
 use Rattle.held.specs.declared.Entered.{Entered}
+use Rattle.held.specs.declared.Verdict.{Verdict}
 use Rattle.held.specs.Held.{countAbove, freshOf, blank, openOf, valuesOf, standingOf, heldReport, withValue, triedOf, enterOf}
 
 -- a slot is free
 pub record Free (s : Search) : Type 0 where
   pub free : s .count < slots
 
-pub sound-standing : (s : Search) → SoundAt (s .opening) (standingOf s)
-unfolding standingOf
-sound-standing s = go (ltb slots (s .count))
-  where
-    go : (b : Bool) → SoundAt (s .opening) (cond b (Progress.Refused countAbove 0) (progressOf (s .opening) (valuesOf s)))
-    go true = tt
-    go false = sound (s .opening) (valuesOf s)
-
-pub sound-tried : (s : Search) (x v : ℤ) → SoundAt (s .opening) (triedOf s x v)
-sound-tried s x v = sound-offer (s .opening) (standingOf s) (otherAt (s .opening) (standingOf s) x) v (sound-standing s)
+-- where a search with a count, an opening and the values up to the count stands
+abbrev pub standingBy : ℕ → Opening → List ℤ → Progress
+standingBy n o vs = cond (ltb slots n) (Progress.Refused countAbove 0) (progressOf o vs)
 
 -- ---- an accepted answer
 
@@ -104,9 +98,6 @@ pub record Agree (s s' : Search) : Type 0 where
   pub count : s .count ≡ s' .count
   pub values : valuesOf s ≡ valuesOf s'
 
-abbrev standingBy : ℕ → Opening → List ℤ → Progress
-standingBy n o vs = cond (ltb slots n) (Progress.Refused countAbove 0) (progressOf o vs)
-
 module _ (s s' : Search) (a : Agree s s') where
   same-standing : standingOf s ≡ standingOf s'
   unfolding standingOf
@@ -136,32 +127,17 @@ blank-entry x v = refl
 
 -- ---- the calls, from what their parts answer
 
--- a fresh search: p is where the opening begins, r its report, and h the search beside it
-module _ (o : Opening) (p : Progress) (r : Report) (h : Search) (e : p ≡ beginOf o) (f : r ≡ reportAt o p) where
-  pub open-refused : isRefused p ≡ true → h ≡ blank → record { report = r; search = h } ≡ openOf o
-  unfolding openOf beginOf reportAt
-  open-refused t g = rw (f, g, e) (go (eqb (openingRefusal o) 0) refl (rw e at t))
-    where
-      go : (b : Bool) → eqb (openingRefusal o) 0 ≡ b → isRefused (cond b Progress.Begun (Progress.Refused (openingRefusal o) 0)) ≡ true
-          → record { report = reportAt o (cond b Progress.Begun (Progress.Refused (openingRefusal o) 0)); search = blank }
-          ≡ cond {A = Entered} b (record { report = reportOf o []; search = freshOf o }) (record { report = Report.Refused (openingRefusal o) 0; search = blank })
-      go true i t = never (sym t)
-      go false i t = refl
+-- a fresh search: n is the opening's refusal, and h the search beside the report
+module _ (o : Opening) (n : ℕ) (h : Search) (e : n ≡ openingRefusal o) where
+  pub open-refused : (n ≡ 0 → ⊥) → h ≡ blank → record { report = Report.Refused n 0; search = h } ≡ openOf o
+  unfolding openOf
+  open-refused t g = rw g (rw (← e) (simp (ne-eqb n 0 t)))
 
-  pub open-accepted : isRefused p ≡ false → h ≡ freshOf o → record { report = r; search = h } ≡ openOf o
-  unfolding openOf reportOf progressOf beginOf
-  open-accepted t g = rw (f, g, e) (go (eqb (openingRefusal o) 0) refl (rw e at t))
-    where
-      go : (b : Bool) → eqb (openingRefusal o) 0 ≡ b → isRefused (cond b Progress.Begun (Progress.Refused (openingRefusal o) 0)) ≡ false
-          → record { report = reportAt o (cond b Progress.Begun (Progress.Refused (openingRefusal o) 0)); search = freshOf o }
-          ≡ cond {A = Entered} b (record { report = reportOf o []; search = freshOf o }) (record { report = Report.Refused (openingRefusal o) 0; search = blank })
-      go true i t = ap (λ (q : Progress). record { report = reportAt o q; search = freshOf o }) (simp i)
-      go false i t = never t
+  pub open-accepted : n ≡ 0 → (x : ℕ) → x ≡ firstOf o → h ≡ freshOf o → record { report = Report.Next x 0; search = h } ≡ openOf o
+  unfolding openOf reportOf progressOf beginOf reportAt
+  open-accepted t x f g = rw (f, g) (simp (eq-eqb _ 0 (sym e ∙ t)))
 
--- an answer: p is where the search stands, and q where it stands then
-pub tried-is : (s : Search) (x v : ℤ) (p q : Progress) → p ≡ standingOf s → q ≡ offerOf (s .opening) p (otherAt (s .opening) p x) v → q ≡ triedOf s x v
-tried-is s x v p q e f = f ∙ rw e
-
+-- an answer: q is where the search stands then
 module _ (s : Search) (x v : ℤ) (q : Progress) (r : Report) (e : q ≡ triedOf s x v) (f : r ≡ reportAt (s .opening) q) where
   pub enter-refused : isRefused q ≡ true → record { report = r; search = s } ≡ enterOf s x v
   unfolding enterOf
@@ -172,3 +148,41 @@ module _ (s : Search) (x v : ℤ) (q : Progress) (r : Report) (e : q ≡ triedOf
   enter-accepted l t h g =
       let u : isRefused (triedOf s x v) ≡ false = rw e at t in
       rw (f, e, g) (simp u (ap (λ (r : Report). record { report = r; search = withValue s v }) (report-more s x v l u)))
+
+-- ---- what an answer does to a search, without the search
+
+-- a search of its parts
+abbrev pub searchOf : Opening → ℕ → List ℤ → Search
+searchOf o n vs = record { opening = o; count = n; slots = vs }
+
+unfoldable pub verdictOf : Search → ℤ → ℤ → Verdict
+verdictOf s x v =
+    cond (isRefused (triedOf s x v))
+    (record { report = reportAt (s .opening) (triedOf s x v); count = s .count; at = 0; value = getD (s .slots) 0 (pos 0) })
+    (record { report = reportAt (s .opening) (triedOf s x v); count = s .count + 1; at = s .count; value = v })
+
+module _ (s : Search) (x v : ℤ) (r : Report) (e : r ≡ reportAt (s .opening) (triedOf s x v)) where
+  pub verdict-refused : isRefused (triedOf s x v) ≡ true → record { report = r; count = s .count; at = 0; value = getD (s .slots) 0 (pos 0) } ≡ verdictOf s x v
+  unfolding verdictOf
+  verdict-refused f = rw e (simp f)
+
+  pub verdict-entered : isRefused (triedOf s x v) ≡ false → record { report = r; count = s .count + 1; at = s .count; value = v } ≡ verdictOf s x v
+  unfolding verdictOf
+  verdict-entered f = rw e (simp f)
+
+-- stored in the search: one slot and the count
+abbrev pub storedBy : Search → Verdict → Search
+storedBy s r = record { opening = s .opening; count = r .count; slots = set (s .slots) (r .at) (r .value) }
+
+pub record Stores (s : Search) (x v : ℤ) (r : Verdict) : Type 0 where
+  pub room : r .at < slots
+  pub told : r .report ≡ enterOf s x v .report
+  pub left : storedBy s r ≡ enterOf s x v .search
+
+pub stores : (s : Search) (x v : ℤ) (r : Verdict) → length (s .slots) ≡ slots → r ≡ verdictOf s x v → Stores s x v r
+unfolding verdictOf enterOf
+stores s x v r l e = subst (Stores s x v) (sym e) (go (isRefused (triedOf s x v)) refl)
+  where
+    go : (b : Bool) → isRefused (triedOf s x v) ≡ b → Stores s x v (verdictOf s x v)
+    go true f = record { room = simp f (omega arith); told = simp f; left = simp f (ap (λ (vs : List ℤ). record { opening = s .opening; count = s .count; slots = vs }) (set-getD (s .slots) 0 (pos 0))) }
+    go false f = record { room = simp f (free-slot s x v l f .free); told = simp f (report-more s x v l f); left = simp f }

@@ -1,9 +1,10 @@
 // Held searches: a search that keeps its own list of values.
 ghost use mathlib.Core.Path.{_≡_};
-ghost use Rattle.held.specs.Held.{freshOf, openOf, standingOf, heldReport, withValue, enterOf};
-ghost use Rattle.held.specs.HeldLaws.{Free};
+ghost use lib.ListN.{length, take};
+ghost use Rattle.rules.specs.Search.{answersOf, reportAt, isRefusal};
+ghost use Rattle.held.specs.Held.{freshOf, openOf, heldReport, enterOf};
+ghost use Rattle.held.specs.HeldLaws.{standingBy, searchOf, verdictOf};
 use rules::Opening;
-use rules::Progress;
 use rules::Report;
 
 // An opening, the number of answers taken, and their values in the first slots.
@@ -20,6 +21,14 @@ pub struct Entered {
     pub search: Search,
 }
 
+// What an answer does to a search: the report, the count that it then has, and the value that a slot then has.
+pub struct Verdict {
+    pub report: Report,
+    pub count: u32,
+    pub at: usize,
+    pub value: i32,
+}
+
 // A search of an opening with no answer.
 fn holding(opening: Opening) -> Search
     ensures { λ r. ⌜ r ≡ freshOf opening ⌝ }
@@ -31,31 +40,75 @@ fn holding(opening: Opening) -> Search
     }
 }
 
-// Where a held search stands: the count is checked, then the opening, then the values held.
-fn standing(s: Search) -> Progress
-    ensures { λ r. ⌜ r ≡ standingOf s ⌝ }
+// The report on a held search's parts, with further answers after the values held: the count is checked, then the opening, then the
+// values and the answers.
+fn told(opening: Opening, count: u32, slots: &[i32], points: &[i32], values: &[i32]) -> Report
+    requires { ⌜ (length (now slots) ≡ 72) × (length (now points) ≡ length (now values)) ⌝ }
+    ensures { λ r. ⌜ r ≡ reportAt opening (answersOf opening (standingBy count opening (take count (now (slots .entry)))) (now (points .entry)) (now (values .entry))) ⌝ }
 {
-    if Search::SLOTS < s.count {
-        return Progress::Refused {
+    if Search::SLOTS < count {
+        return Report::Refused {
             number: 9,
             place: 0,
         };
     }
-    let n = s.count as usize;
-    let slots = s.slots;
-    search::progress_on(s.opening, &slots[..n])
+    let n = count as usize;
+    walk::follow(opening, &slots[..n], points, values)
 }
 
-// The search with a value in its next slot.
-fn with_value(s: Search, value: i32) -> Search
-    requires { ⌜ Free s ⌝ }
-    ensures { λ r. ⌜ r ≡ withValue s value ⌝ }
+// Whether a report is a refusal.
+fn is_refusal(r: Report) -> bool
+    ensures { λ b. ⌜ b ≡ isRefusal r ⌝ }
 {
-    let at = s.count as usize;
-    let mut next = s;
-    next.slots[at] = value;
-    next.count = s.count + 1;
-    next
+    match r {
+        Report::Next { point: _, taken: _ } => false,
+        Report::Stop {
+            lower: _,
+            upper: _,
+            better: _,
+            taken: _,
+        } => false,
+        Report::Refused {
+            number: _,
+            place: _,
+        } => true,
+    }
+}
+
+// What an answer, a point and its value, does to a search of these parts: it is entered, or refused and all stays as it is.
+pub fn judge_parts(
+    opening: Opening,
+    count: u32,
+    slots: &[i32; 72],
+    point: i32,
+    value: i32,
+) -> Verdict
+    ensures { λ r. ⌜ r ≡ verdictOf (searchOf opening count (now (slots .entry))) point value ⌝ }
+{
+    let points = [point];
+    let values = [value];
+    let report = told(opening, count, slots, &points, &values);
+    if is_refusal(report) {
+        return Verdict {
+            report,
+            count,
+            at: 0,
+            value: slots[0],
+        };
+    }
+    Verdict {
+        report,
+        count: count + 1,
+        at: count as usize,
+        value,
+    }
+}
+
+// The same of a search.
+pub fn judge(s: Search, point: i32, value: i32) -> Verdict
+    ensures { λ r. ⌜ r ≡ verdictOf s point value ⌝ }
+{
+    judge_parts(s.opening, s.count, &s.slots, point, value)
 }
 
 impl Search {
@@ -72,9 +125,8 @@ impl Search {
     pub fn fresh(opening: Opening) -> Entered
         ensures { λ r. ⌜ r ≡ openOf opening ⌝ }
     {
-        let p = search::begin(opening);
-        let report = search::report_at(opening, p);
-        if search::is_refused(p) {
+        let n = walk::opening_refusal(opening);
+        if n != 0 {
             let nothing = Opening {
                 method: 0,
                 first: 0,
@@ -82,12 +134,16 @@ impl Search {
                 tolerance: 0,
             };
             return Entered {
-                report,
+                report: Report::Refused {
+                    number: n,
+                    place: 0,
+                },
                 search: holding(nothing),
             };
         }
+        let point = interpolation::magnitude(opening.first);
         Entered {
-            report,
+            report: Report::Next { point, taken: 0 },
             search: holding(opening),
         }
     }
@@ -96,37 +152,37 @@ impl Search {
     pub fn report(self) -> Report
         ensures { λ r. ⌜ r ≡ heldReport self ⌝ }
     {
-        search::report_at(self.opening, standing(self))
+        let none: [i32; 0] = [];
+        told(self.opening, self.count, &self.slots, &none, &none)
     }
 
     // An answer, a point and its value, is entered or refused.
     pub fn enter(self, point: i32, value: i32) -> Entered
         ensures { λ r. ⌜ r ≡ enterOf self point value ⌝ }
     {
-        let opening = self.opening;
-        let p = standing(self);
-        let q = search::offer_at(opening, p, point, value);
-        let report = search::report_at(opening, q);
-        if search::is_refused(q) {
-            return Entered {
-                report,
-                search: self,
-            };
-        }
+        let v = judge_parts(self.opening, self.count, &self.slots, point, value);
+        let report = v.report;
+        let at = v.at;
+        let kept = v.value;
+        let mut next = self;
+        next.slots[at] = kept;
+        next.count = v.count;
         Entered {
             report,
-            search: with_value(self, value),
+            search: next,
         }
     }
 }
 
-// The same for the host's own search: taken out whole, an answer entered or refused, and put back whole.
+// The same for the host's own search: one slot and the count are stored.
 pub fn enter_into(search: &mut Search, point: i32, value: i32) -> Report
     ensures { λ r. ⌜ (r ≡ (enterOf (now (search .entry)) point value) .report) × (now (search .exit) ≡ (enterOf (now (search .entry)) point value) .search) ⌝ }
 {
-    let e = (*search).enter(point, value);
-    *search = e.search;
-    e.report
+    let v = judge(*search, point, value);
+    let at = v.at;
+    (*search).slots[at] = v.value;
+    (*search).count = v.count;
+    v.report
 }
 
 // The same with plain parameters: a search of one's own is lent, and comes back beside the report.

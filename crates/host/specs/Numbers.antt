@@ -7,8 +7,10 @@ use Rattle.rules.specs.declared.Opening.{Opening}
 use Rattle.rules.specs.declared.Report.{Report}
 use Rattle.rules.specs.declared.Quote.{Quote}
 use Rattle.held.specs.declared.Entered.{Entered}
+use Rattle.held.specs.declared.Verdict.{Verdict}
 use Rattle.host.specs.declared.Numbers.{Numbers}
 use Rattle.host.specs.declared.Stepped.{Stepped}
+use Rattle.host.specs.declared.Written.{Written}
 
 -- ---- the kinds
 
@@ -46,3 +48,7 @@ quoteNumbers (Quote.Refused number place) = record { kind = refused; a = number;
 -- a report beside its search, as numbers beside it
 abbrev pub inNumbers : Entered → Stepped
 inNumbers e = record { numbers = numbersOf (e .report); search = e .search }
+
+-- what an answer does to a search, with the report as numbers
+abbrev pub writtenOf : Verdict → Written
+writtenOf v = record { numbers = numbersOf (v .report); count = v .count; at = v .at; value = v .value }

@@ -4,7 +4,8 @@ ghost use mathlib.Core.Path.{_≡_};
 ghost use Rattle.rules.specs.Search.{reportOf, quoteOf};
 ghost use Rattle.held.specs.Held.{openOf, heldReport, enterOf};
 ghost use Rattle.sheet.specs.Sheet.{sheetOf};
-ghost use Rattle.host.specs.Numbers.{openingOf, numbersOf, quoteNumbers, inNumbers};
+ghost use Rattle.host.specs.Numbers.{openingOf, numbersOf, quoteNumbers, inNumbers, writtenOf};
+ghost use Rattle.held.specs.HeldLaws.{verdictOf};
 use held::Entered;
 use held::Search;
 use rules::Opening;
@@ -27,6 +28,14 @@ pub struct Numbers {
 pub struct Stepped {
     pub numbers: Numbers,
     pub search: Search,
+}
+
+// What an answer does to a search, with the report as numbers: the count that the search then has, and the value of one slot.
+pub struct Written {
+    pub numbers: Numbers,
+    pub count: u32,
+    pub at: usize,
+    pub value: i32,
 }
 
 // ---- by value
@@ -118,11 +127,18 @@ fn step_open(method: i32, first: i32, second: i32, tolerance: i32) -> Stepped
     in_numbers(Search::fresh(opening_of(method, first, second, tolerance)))
 }
 
-// An answer entered or refused.
-fn step_enter(search: Search, point: i32, value: i32) -> Stepped
-    ensures { λ r. ⌜ r ≡ inNumbers (enterOf search point value) ⌝ }
+// What an answer does to a search.
+fn step_enter(search: Search, point: i32, value: i32) -> Written
+    ensures { λ r. ⌜ r ≡ writtenOf (verdictOf search point value) ⌝ }
 {
-    in_numbers(search.enter(point, value))
+    let v = held::judge(search, point, value);
+    let report = v.report;
+    Written {
+        numbers: report_numbers(report),
+        count: v.count,
+        at: v.at,
+        value: v.value,
+    }
 }
 
 // The report of a search.
@@ -165,9 +181,11 @@ pub extern "C" fn search_enter(search: &mut Search, point: i32, value: i32) -> N
     ensures { λ r. ⌜ (r ≡ numbersOf ((enterOf (now (search .entry)) point value) .report))
         × (now (search .exit) ≡ (enterOf (now (search .entry)) point value) .search) ⌝ }
 {
-    let e = step_enter(*search, point, value);
-    *search = e.search;
-    e.numbers
+    let w = step_enter(*search, point, value);
+    let at = w.at;
+    (*search).slots[at] = w.value;
+    (*search).count = w.count;
+    w.numbers
 }
 
 // Enters an answer into a search that is passed by value: the report, and the search as it then is.
@@ -175,7 +193,17 @@ pub extern "C" fn search_enter(search: &mut Search, point: i32, value: i32) -> N
 pub extern "C" fn search_entered(held: Search, point: i32, value: i32) -> Stepped
     ensures { λ r. ⌜ r ≡ inNumbers (enterOf held point value) ⌝ }
 {
-    step_enter(held, point, value)
+    let v = held::judge_parts(held.opening, held.count, &held.slots, point, value);
+    let report = v.report;
+    let at = v.at;
+    let kept = v.value;
+    let mut search = held;
+    search.slots[at] = kept;
+    search.count = v.count;
+    Stepped {
+        numbers: report_numbers(report),
+        search,
+    }
 }
 
 // The report on an opening and a list of values, of any length.

@@ -20,15 +20,15 @@ use Rattle.rules.specs.declared.Report.{Report}
 use Rattle.rules.specs.Rules.{highest, slots, firstOf, secondOf, startOf, nextOf, advanceOf}
 use Rattle.rules.specs.Refusals.{Accepted}
 use Rattle.rules.specs.RefusalsLaws.{Opened, opened, Ranged}
-use Rattle.rules.specs.Search.{isRefused, takenOf, otherAt, enteredAt, answeredAt, offerOf, takeOf, progressOf, reportAt}
+use Rattle.rules.specs.Search.{isRefused, takenOf, otherAt, enteredAt, answeredAt, offerOf, takeOf, progressOf, answersOf, reportAt}
 use Rattle.rules.specs.SearchLaws.{Sound, ahead, counts, most-slots}
 use Rattle.held.specs.declared.Search.{Search}
 use Rattle.held.specs.declared.Entered.{Entered}
 use Rattle.held.specs.Held.{valuesOf, standingOf, withValue, triedOf, enterOf}
 use Rattle.held.specs.HeldLaws.{enter-refused, enter-accepted}
-use Rattle.records.specs.declared.Entries.{Entries}
-use Rattle.records.specs.Entries.{filled, entriesOf}
-use Rattle.sheet.specs.Sheet.{answersOf, leadsTo, settledAs, sheetOf}
+use Rattle.forms.specs.declared.Entries.{Entries}
+use Rattle.forms.specs.Entries.{filled, entriesOf}
+use Rattle.sheet.specs.Sheet.{leadsTo, settledAs, sheetOf}
 use Rattle.sheet.specs.SheetLaws.{outcome-accepted, sheet-read}
 use Rattle.journal.specs.Answers.{Answer, valueOf, points, values}
 use Rattle.journal.specs.Answers as Answers

@@ -11,14 +11,14 @@ use lib.Seq.{take-at}
 use lib.IntN.{ℤ, pos, negsuc, natAbs}
 use Rattle.rules.specs.declared.Opening.{Opening}
 use Rattle.rules.specs.Rules.{slots}
-use Rattle.records.specs.declared.Number.{Number}
-use Rattle.records.specs.declared.Entries.{Entries}
-use Rattle.records.specs.Number.{valueFrom, valueOf, numberOf}
-use Rattle.records.specs.NumberLaws.{Digits as AllDigits, numeral, digits-read, minus-read, value-last}
-use Rattle.records.specs.TextLaws.{textOf}
-use Rattle.records.specs.FieldLaws.{joined}
-use Rattle.records.specs.Entries.{padded, filled, entriesOf}
-use Rattle.records.specs.ReadingLaws.{Spells, SpellsAnswers, entries-read}
+use Rattle.forms.specs.declared.Number.{Number}
+use Rattle.forms.specs.declared.Entries.{Entries}
+use Rattle.forms.specs.Number.{valueFrom, valueOf, numberOf}
+use Rattle.forms.specs.NumberLaws.{Digits as AllDigits, numeral, digits-read, minus-read, value-last}
+use Rattle.forms.specs.TextLaws.{textOf}
+use Rattle.forms.specs.FieldLaws.{joined}
+use Rattle.forms.specs.Entries.{padded, filled, entriesOf}
+use Rattle.forms.specs.ReadingLaws.{Spells, SpellsAnswers, entries-read}
 use Rattle.journal.specs.Answers.{Answer, points, values}
 use Rattle.journal.specs.Spelling.{digit, Digits, Numeral, AnswersText, SheetText}
 

@@ -2,7 +2,7 @@
 -- Assumes nothing.
 use Prim.Native.Nat.{ℕ, _+_, _-_, _*_, _/_}
 use mathlib.Core.Bool.{Bool, true, false, cond, not, _&&_}
-use mathlib.Core.List.{List, foldl}
+use mathlib.Core.List.{List, [], _∷_, foldl}
 use lib.Dec.{eqb}
 use lib.IntN.{ℤ, pos, natAbs}
 use Rattle.integers.specs.Digits.{digits}
@@ -86,6 +86,12 @@ takeOf o p v = offerOf o p false v
 unfoldable pub progressOf : Opening → List ℤ → Progress
 progressOf o vs = foldl (takeOf o) (beginOf o) vs
 
+-- each answer in turn, its point tried against the one called for; the shorter of the two lists ends them
+unfoldable pub answersOf : Opening → Progress → List ℤ → List ℤ → Progress
+answersOf o p [] vs = p
+answersOf o p (x ∷ xs) [] = p
+answersOf o p (x ∷ xs) (v ∷ vs) = answersOf o (offerOf o p (otherAt o p x) v) xs vs
+
 -- ---- the report
 
 -- the stop, or the next point
@@ -98,6 +104,11 @@ reportAt o Progress.Begun = Report.Next (firstOf o) 0
 reportAt o (Progress.First v) = Report.Next (secondOf o) 1
 reportAt o (Progress.Bracketed k) = bracketReport o k
 reportAt o (Progress.Refused n i) = Report.Refused n i
+
+abbrev pub isRefusal : Report → Bool
+isRefusal (Report.Next point taken) = false
+isRefusal (Report.Stop lower upper better taken) = false
+isRefusal (Report.Refused n i) = true
 
 -- the search over a list of values
 unfoldable pub reportOf : Opening → List ℤ → Report

@@ -20,11 +20,12 @@ use Rattle.rules.specs.declared.Method.{Method}
 use Rattle.rules.specs.declared.Sample.{Sample}
 use Rattle.rules.specs.declared.Bracket.{Bracket}
 use Rattle.rules.specs.declared.Progress.{Progress}
+use Rattle.rules.specs.declared.Report.{Report}
 use Rattle.rules.specs.Rules.{highest, largestTolerance, largestValue, slots, methodOf, firstOf, secondOf, toleranceAt, closer, pairOf, startOf, lowerOf, upperOf, widthOf, stoppedOf, partnerOf, thirdOf, streakOf, renewedOf, advanceOf, allowed, reachOf, offsetOf, nextOf}
 use Rattle.rules.specs.RulesLaws.{Ahead, next-ahead, offset-in, going-wide, Held, partner-is, Inside, Advance, advance-is, advance-taken, start-is, start-counts, Halves, bisection-halves, forced}
 use Rattle.rules.specs.Refusals.{openingRefusal, answerRefusal, tooLarge, sameSide, Accepted}
 use Rattle.rules.specs.RefusalsLaws.{Opened, opened, Passed, answer-passed, crossing-opposed, opposed-crossing}
-use Rattle.rules.specs.Search.{isRefused, beginOf, stoppedAt, sameSideAt, takenOf, enteredAt, answeredAt, offerOf, takeOf, progressOf, distanceOf, tOf, mostOf}
+use Rattle.rules.specs.Search.{isRefused, beginOf, stoppedAt, sameSideAt, takenOf, enteredAt, answeredAt, offerOf, takeOf, progressOf, answersOf, bracketReport, reportAt, isRefusal, distanceOf, tOf, mostOf}
 use Rattle.rules.specs.BoundLaws.{turns-least, turns-few, Bound, bound-start, bound-below, bound-step}
 
 -- ---- what is known of a bracket that answers have led to
@@ -268,6 +269,27 @@ refused-stays o Progress.Begun (v ∷ vs) e = never (sym e)
 refused-stays o (Progress.First u) (v ∷ vs) e = never (sym e)
 refused-stays o (Progress.Bracketed k) (v ∷ vs) e = never (sym e)
 refused-stays o (Progress.Refused n i) (v ∷ vs) e = refused-stays o (Progress.Refused n i) vs e
+
+pub answers-stay : (o : Opening) (p : Progress) (xs vs : List ℤ) → isRefused p ≡ true → answersOf o p xs vs ≡ p
+unfolding answersOf offerOf
+answers-stay o p [] vs e = refl
+answers-stay o p (x ∷ xs) [] e = refl
+answers-stay o Progress.Begun (x ∷ xs) (v ∷ vs) e = never (sym e)
+answers-stay o (Progress.First u) (x ∷ xs) (v ∷ vs) e = never (sym e)
+answers-stay o (Progress.Bracketed k) (x ∷ xs) (v ∷ vs) e = never (sym e)
+answers-stay o (Progress.Refused n i) (x ∷ xs) (v ∷ vs) e = answers-stay o (Progress.Refused n i) xs vs e
+
+-- a report is a refusal where the search is refused
+pub refusal-is : (o : Opening) (p : Progress) → isRefusal (reportAt o p) ≡ isRefused p
+unfolding reportAt bracketReport
+refusal-is o Progress.Begun = refl
+refusal-is o (Progress.First u) = refl
+refusal-is o (Progress.Bracketed k) = go (stoppedOf o k)
+  where
+    go : (b : Bool) → isRefusal (cond b (Report.Stop (lowerOf k) (upperOf k) (k .better .point) (k .taken)) (Report.Next (nextOf o k) (k .taken))) ≡ false
+    go true = refl
+    go false = refl
+refusal-is o (Progress.Refused n i) = refl
 
 -- a list that is not refused has an accepted opening
 pub accepted-of : (o : Opening) (vs : List ℤ) → isRefused (progressOf o vs) ≡ false → Accepted o

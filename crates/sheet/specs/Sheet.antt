@@ -3,27 +3,19 @@
 -- Assumes nothing.
 use Prim.Native.Nat.{ℕ}
 use mathlib.Core.Bool.{cond}
-use mathlib.Core.List.{List, [], _∷_}
+use mathlib.Core.List.{List}
 use lib.Dec.{eqb}
-use lib.IntN.{ℤ}
 use lib.ListN.{take}
-use Rattle.rules.specs.declared.Opening.{Opening}
 use Rattle.rules.specs.declared.Progress.{Progress}
 use Rattle.rules.specs.declared.Report.{Report}
 use Rattle.rules.specs.Refusals.{openingRefusal}
-use Rattle.rules.specs.Search.{otherAt, offerOf, reportAt}
+use Rattle.rules.specs.Search.{reportAt, answersOf}
 use Rattle.held.specs.declared.Search.{Search}
 use Rattle.held.specs.declared.Entered.{Entered}
 use Rattle.held.specs.Held.{blank}
-use Rattle.records.specs.declared.Form.{Form}
-use Rattle.records.specs.declared.Entries.{Entries}
-use Rattle.records.specs.Entries.{openingPlace, answerPlace, entriesOf}
-
--- each answer in turn, its point tried against the one called for
-unfoldable pub answersOf : Opening → Progress → List ℤ → List ℤ → Progress
-answersOf o p [] vs = p
-answersOf o p (x ∷ xs) [] = p
-answersOf o p (x ∷ xs) (v ∷ vs) = answersOf o (offerOf o p (otherAt o p x) v) xs vs
+use Rattle.forms.specs.declared.Form.{Form}
+use Rattle.forms.specs.declared.Entries.{Entries}
+use Rattle.forms.specs.Entries.{openingPlace, answerPlace, entriesOf}
 
 -- where the answers of a well-formed text lead
 abbrev pub leadsTo : Entries → Progress

@@ -1,65 +1,34 @@
 -- The laws of sheets: where the answers lead, and that a text has no more answers than a held search has slots.
 -- Assumes nothing.
 use Prim.Native.Nat.{ℕ, _+_, _≤_, _<_}
-use mathlib.Core.Path.{_≡_, refl, sym, _∙_}
+use mathlib.Core.Path.{_≡_, refl, _∙_}
 use mathlib.Core.Bool.{Bool, true, false, cond}
 use mathlib.Core.List.{List, [], _∷_}
 use native.Mathlib.Nat.{add-zero}
-use native.Mathlib.Numerals.{add-one}
 use native.Mathlib.Omega.{arith}
 use borrow.Author.Tests.{eqb-false, eq-eqb, ne-eqb}
 use lib.Dec.{eqb, ltb}
-use lib.IntN.{ℤ, pos}
-use lib.ListN.{length, getD, drop, drop-of-length-le}
-use lib.Seq.{drop-cons}
-use Rattle.integers.specs.Signs.{never}
+use lib.IntN.{ℤ}
+use lib.ListN.{length}
 use Rattle.rules.specs.declared.Opening.{Opening}
 use Rattle.rules.specs.declared.Progress.{Progress}
-use Rattle.rules.specs.Rules.{slots}
+use Rattle.rules.specs.declared.Report.{Report}
+use Rattle.rules.specs.Rules.{slots, lowerOf, upperOf, stoppedOf, nextOf}
 use Rattle.rules.specs.Refusals.{openingRefusal}
-use Rattle.rules.specs.RefusalsLaws.{Opened}
-use Rattle.rules.specs.Search.{isRefused, otherAt, offerOf}
-use Rattle.rules.specs.SearchLaws.{SoundAt, CountedAt, sound-offer, counted-offer}
-use Rattle.records.specs.declared.Form.{Form}
-use Rattle.records.specs.declared.Entries.{Entries}
-use Rattle.records.specs.declared.AnswerRecord.{AnswerRecord}
-use Rattle.records.specs.declared.OpeningRecord.{OpeningRecord}
-use Rattle.records.specs.Text.{recordsOf}
-use Rattle.records.specs.Entries.{longest, openingPlace, answerOf, openingOf, opened, entered, refused, answersFrom, recordsRead, entriesOf}
-use Rattle.sheet.specs.Sheet.{answersOf, leadsTo, refusedAt, keptAs, settledAs, outcomeOf, sheetOf}
+use Rattle.rules.specs.Search.{otherAt, offerOf, answersOf, bracketReport, reportAt}
+use Rattle.rules.specs.SearchLaws.{CountedAt, counted-offer}
+use Rattle.held.specs.declared.Entered.{Entered}
+use Rattle.forms.specs.declared.Form.{Form}
+use Rattle.forms.specs.declared.Entries.{Entries}
+use Rattle.forms.specs.declared.AnswerRecord.{AnswerRecord}
+use Rattle.forms.specs.declared.OpeningRecord.{OpeningRecord}
+use Rattle.forms.specs.Text.{recordsOf}
+use Rattle.forms.specs.Entries.{longest, openingPlace, answerPlace, answerOf, openingOf, opened, entered, refused, answersFrom, recordsRead, entriesOf}
+use Rattle.sheet.specs.Sheet.{leadsTo, refusedAt, keptOf, settledAs, outcomeOf, sheetOf}
 
 -- ---- where the answers lead
 
--- i answers have led to p: where all of them lead is where the others lead from p
-pub record Led (o : Opening) (xs vs : List ℤ) (i : ℕ) (p : Progress) : Type 0 where
-  pub sound : SoundAt o p
-  pub onward : answersOf o Progress.Begun xs vs ≡ answersOf o p (drop i xs) (drop i vs)
-
-pub led-begin : (o : Opening) (xs vs : List ℤ) → Opened o → Led o xs vs 0 Progress.Begun
-led-begin o xs vs op = record { sound = op; onward = refl }
-
-module _ (o : Opening) (xs vs : List ℤ) (i : ℕ) (p : Progress) (l : Led o xs vs i p) where
-  pub led-more : i < length xs → length xs ≡ length vs
-      → Led o xs vs (i + 1) (offerOf o p (otherAt o p (getD xs i (pos 0))) (getD vs i (pos 0)))
-  unfolding answersOf
-  led-more h e =
-      let g : i < length vs = omega arith in
-      record {
-        sound = sound-offer o p _ _ (l .sound);
-        onward = l .onward ∙ rw (drop-cons xs i (pos 0) h, drop-cons vs i (pos 0) g, add-one i);
-      }
-
-  pub led-end : length xs ≤ i → p ≡ answersOf o Progress.Begun xs vs
-  unfolding answersOf
-  led-end h = sym (l .onward ∙ rw (drop-of-length-le xs h))
-
--- what is known of where they lead
-pub answers-sound : (o : Opening) (p : Progress) (xs vs : List ℤ) → SoundAt o p → SoundAt o (answersOf o p xs vs)
-unfolding answersOf
-answers-sound o p [] vs s = s
-answers-sound o p (x ∷ xs) [] s = s
-answers-sound o p (x ∷ xs) (v ∷ vs) s = answers-sound o (offerOf o p (otherAt o p x) v) xs vs (sound-offer o p (otherAt o p x) v s)
-
+-- each is counted
 pub answers-counted : (o : Opening) (n : ℕ) (p : Progress) (xs vs : List ℤ) → length xs ≡ length vs → CountedAt n p
     → CountedAt (n + length xs) (answersOf o p xs vs)
 unfolding answersOf
@@ -98,11 +67,48 @@ entries-few text = go (ltb longest (length text)) (recordsOf text)
 
 -- ---- the outcome, by where the answers lead
 
-pub settled-kept : (e : Entries) (p : Progress) → isRefused p ≡ false → keptAs e p ≡ settledAs e p
-settled-kept e Progress.Begun h = refl
-settled-kept e (Progress.First v) h = refl
-settled-kept e (Progress.Bracketed k) h = refl
-settled-kept e (Progress.Refused n i) h = never h
+-- the outcome, by the report on where they lead
+abbrev pub keptBy : Entries → Report → Entered
+keptBy e r = record { report = r; search = keptOf e }
+
+abbrev pub settledBy : Entries → Report → Entered
+settledBy e (Report.Next point taken) = keptBy e (Report.Next point taken)
+settledBy e (Report.Stop lower upper better taken) = keptBy e (Report.Stop lower upper better taken)
+settledBy e (Report.Refused n i) = refusedAt n (answerPlace i)
+
+pub settled-is : (e : Entries) (p : Progress) → settledBy e (reportAt (e .opening) p) ≡ settledAs e p
+unfolding reportAt bracketReport
+settled-is e Progress.Begun = refl
+settled-is e (Progress.First v) = refl
+settled-is e (Progress.Bracketed k) = go (stoppedOf (e .opening) k)
+  where
+    stop : Report
+    stop = Report.Stop (lowerOf k) (upperOf k) (k .better .point) (k .taken)
+
+    next : Report
+    next = Report.Next (nextOf (e .opening) k) (k .taken)
+
+    go : (b : Bool) → settledBy e (cond b stop next) ≡ keptBy e (cond b stop next)
+    go true = refl
+    go false = refl
+settled-is e (Progress.Refused n i) = refl
+
+-- a refusal has the index of one of n answers
+abbrev pub Below : ℕ → Report → Type 0
+Below n (Report.Next point taken) = Unit {0}
+Below n (Report.Stop lower upper better taken) = Unit {0}
+Below n (Report.Refused m i) = i < n
+
+pub below : (o : Opening) (n : ℕ) (p : Progress) → CountedAt n p → Below n (reportAt o p)
+unfolding reportAt bracketReport
+below o n Progress.Begun c = tt
+below o n (Progress.First v) c = tt
+below o n (Progress.Bracketed k) c = go (stoppedOf o k)
+  where
+    go : (b : Bool) → Below n (cond b (Report.Stop (lowerOf k) (upperOf k) (k .better .point) (k .taken)) (Report.Next (nextOf o k) (k .taken)))
+    go true = tt
+    go false = tt
+below o n (Progress.Refused m i) c = c
 
 pub outcome-accepted : (e : Entries) → openingRefusal (e .opening) ≡ 0 → settledAs e (leadsTo e) ≡ outcomeOf e
 unfolding outcomeOf

@@ -1,19 +1,19 @@
 // Trial sheets: the outcome of a text.
 ghost use mathlib.Core.Path.{_≡_};
 ghost use Prim.Native.Nat.{_≤_};
-ghost use lib.ListN.{length};
+ghost use lib.ListN.{length, take};
 ghost use Rattle.rules.specs.Rules.{slots};
-ghost use Rattle.rules.specs.RefusalsLaws.{Opened};
-ghost use Rattle.rules.specs.SearchLaws.{SoundAt, CountedAt};
+ghost use Rattle.rules.specs.Refusals.{openingRefusal};
+ghost use Rattle.rules.specs.Search.{answersOf, reportAt};
 ghost use Rattle.rules.specs.declared.Progress.the-variants.{Begun};
 ghost use Rattle.printing.specs.Printed.{recordOf, placed, placedLength};
-ghost use Rattle.sheet.specs.Sheet.{answersOf, refusedAt, keptAs, settledAs, outcomeOf, sheetOf};
+ghost use Rattle.sheet.specs.Sheet.{refusedAt, outcomeOf, sheetOf};
+ghost use Rattle.sheet.specs.SheetLaws.{keptBy, settledBy, Below};
+use forms::Entries;
+use forms::Form;
 use held::Entered;
 use held::Search;
-use records::Entries;
-use records::Form;
 use rules::Opening;
-use rules::Progress;
 use rules::Report;
 
 // A refusal, and beside it a blank.
@@ -35,32 +35,23 @@ fn refuse(number: u32, place: u32) -> Entered
     }
 }
 
-// Where the answers lead, each with its point and its value.
-fn answers_on(o: Opening, points: &[i32], values: &[i32]) -> Progress
-    requires opened { ⌜ Opened o ⌝ }
-    requires paired { ⌜ length (now points) ≡ length (now values) ⌝ }
-    ensures { λ r. ⌜ r ≡ answersOf o Begun (now (points .entry)) (now (values .entry)) ⌝ }
+// The report on the answers up to the count, each with its point, of an opening that is accepted.
+fn told<'a>(opening: Opening, count: u32, points: &'a [i32], values: &'a [i32]) -> Report
+    requires { ⌜ (openingRefusal opening ≡ 0) × (count ≤ length (now points)) × (length (now points) ≡ length (now values)) ⌝ }
+    ensures { λ r. ⌜ r ≡ reportAt opening (answersOf opening Begun (take count (now (points .entry))) (take count (now (values .entry)))) ⌝ }
 {
-    let mut p = Progress::Begun;
-    let mut i: usize = 0;
-    while i < points.len() {
-        let x = points[i];
-        let v = values[i];
-        p = search::offer_at(o, p, x, v);
-        i += 1;
-    }
-    p
+    let n = count as usize;
+    walk::follow(opening, &values[..0], &points[..n], &values[..n])
 }
 
-// The report on where the answers lead, and the held search that the sheet is.
-fn keep(e: Entries, p: Progress) -> Entered
-    requires { ⌜ SoundAt (e .opening) p ⌝ }
-    ensures { λ r. ⌜ r ≡ keptAs e p ⌝ }
+// A report, and beside it the held search that the sheet is.
+fn keep(e: Entries, report: Report) -> Entered
+    ensures { λ r. ⌜ r ≡ keptBy e report ⌝ }
 {
     let opening = e.opening;
     let slots = e.values;
     Entered {
-        report: search::report_at(opening, p),
+        report,
         search: Search {
             opening,
             count: e.count,
@@ -69,16 +60,20 @@ fn keep(e: Entries, p: Progress) -> Entered
     }
 }
 
-// The outcome, by where the answers lead.
-fn settle(e: Entries, p: Progress) -> Entered
-    requires { ⌜ (SoundAt (e .opening) p) × (CountedAt (e .count) p) × (e .count ≤ slots) ⌝ }
-    ensures { λ r. ⌜ r ≡ settledAs e p ⌝ }
+// The outcome, by the report on the answers.
+fn settle(e: Entries, report: Report) -> Entered
+    requires { ⌜ (Below (e .count) report) × (e .count ≤ slots) ⌝ }
+    ensures { λ r. ⌜ r ≡ settledBy e report ⌝ }
 {
-    match p {
-        Progress::Begun => keep(e, p),
-        Progress::First { value: _ } => keep(e, p),
-        Progress::Bracketed { bracket: _ } => keep(e, p),
-        Progress::Refused { number, place } => refuse(number, place + 2),
+    match report {
+        Report::Next { point: _, taken: _ } => keep(e, report),
+        Report::Stop {
+            lower: _,
+            upper: _,
+            better: _,
+            taken: _,
+        } => keep(e, report),
+        Report::Refused { number, place } => refuse(number, place + 2),
     }
 }
 
@@ -87,15 +82,12 @@ fn outcome(e: Entries) -> Entered
     requires { ⌜ e .count ≤ slots ⌝ }
     ensures { λ r. ⌜ r ≡ outcomeOf e ⌝ }
 {
-    let opening = e.opening;
-    let refused = search::opening_refusal(opening);
+    let refused = walk::opening_refusal(e.opening);
     if refused != 0 {
         return refuse(refused, 1);
     }
-    let n = e.count as usize;
-    let points = e.points;
-    let values = e.values;
-    settle(e, answers_on(opening, &points[..n], &values[..n]))
+    let report = told(e.opening, e.count, &e.points, &e.values);
+    settle(e, report)
 }
 
 // The outcome of a text of any length: its report, and the held search that it is.

@@ -1,28 +1,37 @@
--- `host::search_enter` meets its contract: it copies the host's search out whole, calls `step_enter` and stores the search of what that
--- returns back whole, so `Into.antt` of crate `held` says what it returns and leaves.
+-- `host::search_enter` meets its contract: it copies the host's search out whole, calls `step_enter` and stores the slot and the count
+-- that it says, so `Slot.antt` of crate `held` says what it returns and leaves.
 -- Assumes nothing.
-use mathlib.Core.Path.{ap}
+use mathlib.Core.Path.{_≡_, refl, ap, _∙_}
 use lib.IntN.{ℤ}
+use lib.ListN.{length}
 use base.Logic.{emp}
 use contract.Monad.{factI}
+use Rattle.rules.specs.Rules.{slots}
 use Rattle.held.specs.declared.Search.{Search}
-use Rattle.held.specs.Held.{enterOf}
-use Rattle.host.specs.declared.Stepped.{Stepped}
-use Rattle.host.specs.Numbers.{inNumbers}
+use Rattle.held.specs.HeldLaws.{verdictOf, Stores, stores}
+use Rattle.host.specs.declared.Written.{Written}
+use Rattle.host.specs.Numbers.{numbersOf, writtenOf}
 use Rattle.host.proofs.step_enter.Symbol as step
 use Rattle.host.proofs.step_enter.Met as step-thm
 use Rattle.host.proofs.search_enter as f
 use Rattle.host.proofs.search_enter.Key as key
 use Rattle.host.proofs.search_enter.Statement as stated
 use Rattle.host.proofs.search_enter.Code as code
-use Rattle.held.proofs.Into.{stores-back}
-use Rattle.held.proofs.Types.{search}
-use Rattle.host.proofs.Types.{numbers, stepped, stepped-laws}
+use Rattle.held.proofs.Slot.{stored, stores-two}
+use Rattle.host.proofs.Types.{numbers, written, written-laws}
+
+abbrev stepOf : Search → ℤ → ℤ → Written
+stepOf s x v = writtenOf (verdictOf s x v)
+
+entered : (s : Search) (x v : ℤ) → length (s .slots) ≡ slots → Stores s x v (verdictOf s x v)
+entered s x v l = stores s x v (verdictOf s x v) l refl
 
 pub search-enter-spec : {M : Type 1} → stated.statement M
 unfolding code.routine
 search-enter-spec 𝓤 H 𝓜 𝓖 𝓡 =
-    stores-back numbers search stepped stepped-laws (λ (s : Search) (point value : ℤ). inNumbers (enterOf s point value)) 𝓤 H 𝓜 𝓖 𝓡
+    stores-two numbers written written-laws stepOf (λ h p z l. entered h p z l .room) 𝓤 H 𝓜 𝓖 𝓡
     (f.clauses 𝓤 H (𝓖 .A) (𝓜 .mem) (𝓡 .run))
-    (λ κs a g r e. factI 𝓤 _ (emp 𝓤) (ap (λ (y : Stepped). y .numbers) e, ap (λ (y : Stepped). y .search) e))
+    (λ κs a g l r e.
+    let s = entered (a .0 .now) (a .1 .0) (a .1 .1 .0) l in
+    factI 𝓤 _ (emp 𝓤) (ap (λ (y : Written). y .numbers) e ∙ ap numbersOf (s .told), ap (stored written (a .0 .now)) e ∙ s .left))
     code.env key.name step.name (code.unfolded 𝓤 H 𝓜 𝓡) step.routine code.calls-host·step-enter (step-thm.met 𝓤 H 𝓜 𝓖 𝓡)

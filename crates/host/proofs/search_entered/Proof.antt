@@ -1,17 +1,49 @@
--- `host::search_entered` meets its contract: it is the step by value.
+-- `host::search_entered` meets its contract: the slot and the count that `judge_parts` says are stored.
 -- Assumes nothing.
+use mathlib.Core.Path.{_≡_, ap, ap₂, _∙_}
+use native.Mathlib.Omega.{arith}
+use lib.ListN.{length}
+use mir.Syntax.{w32}
+use mir.Val.{SFits}
 use mir.Facts.{toZ-ofZ}
+use Rattle.rules.specs.Rules.{slots}
+use Rattle.held.specs.declared.Search.{Search}
+use Rattle.held.specs.HeldLaws.{Stores, stores}
+use Rattle.host.specs.Numbers.{numbersOf}
+use Rattle.host.specs.declared.Numbers.{Numbers}
 use borrow.Author.Needs.{needs}
 use Rattle.host.proofs.search_entered.Statement.{statement}
 use Rattle.host.proofs.search_entered.Tie as tie
 
-step-enter-requires : tie.Need-step-enter-requires
-step-enter-requires c κs = search needs
+abbrev start-of : tie.After-judge-parts → tie.Start
+start-of c = c .before .before .before .before
+
+long : (s : tie.Start) → length (s .args .t1 .slots) ≡ slots
+long s = search needs
+
+stored : (c : tie.After-judge-parts) → Stores (start-of c .args .t1) (start-of c .args .point) (start-of c .args .value) (c .judge-parts .result)
+stored c = let s = start-of c in stores _ _ _ _ (long s) (rw (toZ-ofZ (s .fits .point), toZ-ofZ (s .fits .value)) at (c .judge-parts .ensures))
+
+judge-parts-requires : tie.Need-judge-parts-requires
+judge-parts-requires c κs = search needs
+
+mul-kept : tie.Need-mul-kept
+mul-kept c = omega (arith, stored (c .before) .room)
+
+element-set-from-kept : tie.Need-element-set-from-kept
+element-set-from-kept c = stored (c .before) .room
+
+report-numbers-requires : tie.Need-report-numbers-requires
+report-numbers-requires c κs = search needs
 
 returns : tie.Need-returns
 returns c =
-    let s = c .before in
-    rw (toZ-ofZ (s .fits .point), toZ-ofZ (s .fits .value)) at (c .step-enter .ensures)
+    let d = c .before .before in
+    let f : SFits w32 (d .judge-parts .result .value) = search needs in
+    rw (toZ-ofZ f)
+    (ap₂ (λ (n : Numbers) (h : Search). record { numbers = n; search = h }) (c .report-numbers .ensures ∙ ap numbersOf (stored d .told)) (stored d .left))
 
 pub search-entered-spec : {M : Type 1} → statement M
-search-entered-spec = tie.close (tie.spec step-enter-requires returns)
+search-entered-spec =
+    tie.close
+    (tie.spec judge-parts-requires mul-kept element-set-from-kept report-numbers-requires returns)

@@ -49,9 +49,8 @@ use Rattle.host.proofs.search_open as f
 use Rattle.host.proofs.search_open.Statement as stated
 use Rattle.host.proofs.search_open.Code as code
 use Rattle.held.proofs.Walk.{row, vals, number, number-stays, number-goes, taken-out, put-back, answered, by-one-call}
-use Rattle.held.proofs.Into.{mirP}
 use Rattle.held.proofs.Types.{search}
-use Rattle.host.proofs.Types.{numbers, stepped, stepped-laws}
+use Rattle.host.proofs.Types.{mirP, numbers, stepped, stepped-laws}
 
 abbrev Arg : Type 0
 Arg = RefT Search × (ℤ × (ℤ × (ℤ × (ℤ × Unit {0}))))

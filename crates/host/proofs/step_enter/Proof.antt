@@ -1,23 +1,34 @@
--- `host::step_enter` meets its contract: the numbers are those of the entry.
+-- `host::step_enter` meets its contract: the numbers are the report's, and the rest is what `judge` says.
 -- Assumes nothing.
-use mathlib.Core.Path.{ap, _∙_}
+use mathlib.Core.Path.{_≡_, ap, ap₂, _∙_}
+use lib.IntN.{ℤ}
+use mir.Syntax.{w32}
+use mir.Val.{SFits, toZ, ofZ}
 use mir.Facts.{toZ-ofZ}
-use Rattle.host.specs.Numbers.{inNumbers}
+use Rattle.held.specs.HeldLaws.{verdictOf}
+use Rattle.host.specs.Numbers.{writtenOf}
+use Rattle.host.specs.declared.Numbers.{Numbers}
 use borrow.Author.Needs.{needs}
 use Rattle.host.proofs.step_enter.Statement.{statement}
 use Rattle.host.proofs.step_enter.Tie as tie
 
-enter-requires : tie.Need-enter-requires
-enter-requires c κs = search needs
+judge-requires : tie.Need-judge-requires
+judge-requires c κs = search needs
 
-in-numbers-requires : tie.Need-in-numbers-requires
-in-numbers-requires c κs = search needs
+report-numbers-requires : tie.Need-report-numbers-requires
+report-numbers-requires c κs = search needs
+
+judged : (c : tie.After-judge) → c .judge .result ≡ verdictOf (c .before .args .search) (c .before .args .point) (c .before .args .value)
+judged c = let s = c .before in rw (toZ-ofZ (s .fits .point), toZ-ofZ (s .fits .value)) at (c .judge .ensures)
+
+written : (c : tie.After-struct-told) → record { numbers = c .before .report-numbers .result; count = c .before .before .judge .result .count; at = c .before .before .judge .result .at; value = toZ w32 (ofZ w32 (c .before .before .judge .result .value)) } ≡ writtenOf (c .before .before .judge .result)
+written c =
+    let v = c .before .before .judge .result in
+    let f : SFits w32 (v .value) = search needs in
+    ap₂ (λ (n : Numbers) (z : ℤ). record { numbers = n; count = v .count; at = v .at; value = z }) (c .before .report-numbers .ensures) (toZ-ofZ f)
 
 returns : tie.Need-returns
-returns c =
-    let s = c .before .before in
-    c .in-numbers .ensures
-    ∙ ap inNumbers (rw (toZ-ofZ (s .fits .point), toZ-ofZ (s .fits .value)) at (c .before .enter .ensures))
+returns c = written c ∙ ap writtenOf (judged (c .before .before))
 
 pub step-enter-spec : {M : Type 1} → statement M
-step-enter-spec = tie.close (tie.spec enter-requires in-numbers-requires returns)
+step-enter-spec = tie.close (tie.spec judge-requires report-numbers-requires returns)

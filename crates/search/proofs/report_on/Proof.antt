@@ -1,23 +1,19 @@
--- `search::report_on` meets its contract: the report on where the values lead, of which all that `report_at` asks is known.
+-- `search::report_on` meets its contract: no answer comes after the values.
 -- Assumes nothing.
-use mathlib.Core.Path.{sym, ap, subst, _∙_}
 use borrow.Author.Needs.{needs}
-use Rattle.rules.specs.Search.{reportAt, reportOf}
-use Rattle.rules.specs.SearchLaws.{SoundAt, sound}
+use Rattle.rules.specs.Search.{answersOf, reportOf}
 use Rattle.search.proofs.report_on.Statement.{statement}
 use Rattle.search.proofs.report_on.Tie as tie
 
-progress-on-requires : tie.Need-progress-on-requires
-progress-on-requires c κs = search needs
+slice-aggregate-none : tie.Need-slice-aggregate-none
+slice-aggregate-none c = search needs
 
-report-at-requires : tie.Need-report-at-requires
-report-at-requires c κs =
-    let s = c .before in
-    subst (SoundAt (s .args .o)) (sym (c .progress-on .ensures)) (sound (s .args .o) _)
+follow-requires : tie.Need-follow-requires
+follow-requires c κs = search needs
 
 returns : tie.Need-returns
-unfolding reportOf
-returns c = c .report-at .ensures ∙ ap (reportAt (c .before .before .args .o)) (c .before .progress-on .ensures)
+unfolding reportOf answersOf
+returns c = c .follow .ensures
 
 pub report-on-spec : {M : Type 1} → statement M
-report-on-spec = tie.close (tie.spec progress-on-requires report-at-requires returns)
+report-on-spec = tie.close (tie.spec slice-aggregate-none follow-requires returns)

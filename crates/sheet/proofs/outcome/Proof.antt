@@ -8,30 +8,36 @@ use lib.ListN.{length, take}
 use lib.Seq.{length-take-le}
 use Rattle.rules.specs.declared.Progress.{Progress}
 use Rattle.rules.specs.Rules.{slots}
-use Rattle.rules.specs.Refusals.{Accepted}
-use Rattle.rules.specs.RefusalsLaws.{opened}
-use Rattle.rules.specs.SearchLaws.{SoundAt, CountedAt}
-use Rattle.sheet.specs.Sheet.{answersOf, settledAs}
-use Rattle.sheet.specs.SheetLaws.{answers-sound, answers-counted, outcome-accepted, outcome-refused}
+use Rattle.rules.specs.Search.{reportAt}
+use Rattle.rules.specs.SearchLaws.{CountedAt}
+use Rattle.sheet.specs.Sheet.{leadsTo}
+use Rattle.sheet.specs.SheetLaws.{settledBy, settled-is, Below, below, answers-counted, outcome-accepted, outcome-refused}
 use borrow.Author.Needs.{needs}
 use Rattle.sheet.proofs.outcome.Statement.{statement}
 use Rattle.sheet.proofs.outcome.Tie as tie
 
-long-points : (s : tie.Start) → length (s .args .e .points) ≡ slots
+long-points : (s : tie.Start) → length (s .args .t1 .points) ≡ slots
 long-points s = search needs
 
-long-values : (s : tie.Start) → length (s .args .e .values) ≡ slots
+long-values : (s : tie.Start) → length (s .args .t1 .values) ≡ slots
 long-values s = search needs
 
-points-are : (s : tie.Start) → length (take (s .args .e .count) (s .args .e .points)) ≡ s .args .e .count
-points-are s = length-take-le (s .args .e .count) (s .args .e .points) (omega (arith, long-points s, s .pre))
+points-are : (s : tie.Start) → length (take (s .args .t1 .count) (s .args .t1 .points)) ≡ s .args .t1 .count
+points-are s = length-take-le (s .args .t1 .count) (s .args .t1 .points) (omega (arith, long-points s, s .pre))
 
-values-are : (s : tie.Start) → length (take (s .args .e .count) (s .args .e .values)) ≡ s .args .e .count
-values-are s = length-take-le (s .args .e .count) (s .args .e .values) (omega (arith, long-values s, s .pre))
+values-are : (s : tie.Start) → length (take (s .args .t1 .count) (s .args .t1 .values)) ≡ s .args .t1 .count
+values-are s = length-take-le (s .args .t1 .count) (s .args .t1 .values) (omega (arith, long-values s, s .pre))
 
-accepted-of : (c : tie.After-values2) → Accepted (c .before .before .before .before .before .before .before .before .args .e .opening)
-accepted-of c =
-    record { accepted = sym (c .before .before .before .before .before .before .opening-refusal .ensures) ∙ c .before .before .before .before .before .if1 .left }
+counted : (s : tie.Start) → CountedAt (s .args .t1 .count) (leadsTo (s .args .t1))
+counted s =
+    subst (λ (n : ℕ). CountedAt n (leadsTo (s .args .t1))) (zero-add _ ∙ points-are s)
+    (answers-counted (s .args .t1 .opening) 0 Progress.Begun (take (s .args .t1 .count) (s .args .t1 .points)) (take (s .args .t1 .count) (s .args .t1 .values)) (points-are s ∙ sym (values-are s)) refl)
+
+abbrev start-of : tie.After-told → tie.Start
+start-of c = c .before .before .before .before .before .before .before .before .before .before
+
+told-is : (c : tie.After-told) → c .told .result ≡ reportAt (start-of c .args .t1 .opening) (leadsTo (start-of c .args .t1))
+told-is c = c .told .ensures
 
 opening-refusal-requires : tie.Need-opening-refusal-requires
 opening-refusal-requires c κs = search needs
@@ -42,43 +48,25 @@ refuse-requires c κs = search needs
 returns : tie.Need-returns
 returns c =
     let n = c .before .before .opening-refusal in
-    c .refuse .ensures ∙ outcome-refused (c .before .before .before .before .args .e) (n .result) (n .ensures) (c .before .if1 .taken)
+    c .refuse .ensures ∙ outcome-refused (c .before .before .before .before .args .t1) (n .result) (n .ensures) (c .before .if1 .taken)
 
-cast-n : tie.Need-cast-n
-cast-n c = search needs
-
-array-share-prefix-points : tie.Need-array-share-prefix-points
-array-share-prefix-points c = let s = c .before .before .before .before .before .before in omega (arith, long-points s, s .pre)
-
-slice-aggregate-answers-on : tie.Need-slice-aggregate-answers-on
-slice-aggregate-answers-on c = sym (points-are (c .before .before .before .before .before .before .before))
-
-array-share-prefix-values : tie.Need-array-share-prefix-values
-array-share-prefix-values c = let s = c .before .before .before .before .before .before .before in omega (arith, long-values s, s .pre)
-
-slice-aggregate-answers-on-2 : tie.Need-slice-aggregate-answers-on-2
-slice-aggregate-answers-on-2 c = sym (values-are (c .before .before .before .before .before .before .before .before))
-
-answers-on-requires : tie.Need-answers-on-requires
-answers-on-requires c κs = let s = c .before .before .before .before .before .before .before .before in (opened _ (accepted-of c), points-are s ∙ sym (values-are s))
+told-requires : tie.Need-told-requires
+told-requires c κs =
+    let p = c .before .before .before .before .before .before in
+    let s = p .before .before .before in
+    (sym (p .before .opening-refusal .ensures) ∙ p .if1 .left, omega (arith, long-points s, s .pre), long-points s ∙ sym (long-values s))
 
 settle-requires : tie.Need-settle-requires
 settle-requires c κs =
-    let s = c .before .before .before .before .before .before .before .before .before in
-    let o = s .args .e .opening in
-    let xs = take (s .args .e .count) (s .args .e .points) in
-    let vs = take (s .args .e .count) (s .args .e .values) in (
-      subst (SoundAt o) (sym (c .answers-on .ensures)) (answers-sound o Progress.Begun xs vs (opened _ (accepted-of (c .before)))),
-      subst (CountedAt (s .args .e .count)) (sym (c .answers-on .ensures))
-          (subst (λ (n : ℕ). CountedAt n (answersOf o Progress.Begun xs vs)) (zero-add (length xs) ∙ points-are s)
-          (answers-counted o 0 Progress.Begun xs vs (points-are s ∙ sym (values-are s)) refl)),
-      s .pre,
-    )
+    let s = start-of c in
+    (subst (Below (s .args .t1 .count)) (sym (told-is c)) (below _ _ (leadsTo (s .args .t1)) (counted s)), s .pre)
 
 returns-2 : tie.Need-returns-2
 returns-2 c =
-    let s = c .before .before .before .before .before .before .before .before .before .before in
-    c .settle .ensures ∙ ap (settledAs (s .args .e)) (c .before .answers-on .ensures) ∙ outcome-accepted (s .args .e) (accepted-of (c .before .before) .accepted)
+    let t = c .before in
+    let p = t .before .before .before .before .before .before .before in
+    let e = start-of t .args .t1 in
+    c .settle .ensures ∙ ap (settledBy e) (told-is t) ∙ settled-is e (leadsTo e) ∙ outcome-accepted e (sym (p .before .opening-refusal .ensures) ∙ p .if1 .left)
 
 pub outcome-spec : {M : Type 1} → statement M
 outcome-spec =
@@ -87,11 +75,6 @@ outcome-spec =
     opening-refusal-requires
     refuse-requires
     returns
-    cast-n
-    array-share-prefix-points
-    slice-aggregate-answers-on
-    array-share-prefix-values
-    slice-aggregate-answers-on-2
-    answers-on-requires
+    told-requires
     settle-requires
     returns-2)

@@ -1,88 +1,42 @@
--- `held::Search::enter` meets its contract: the offered answer is tried after the held values. Where it is accepted a slot is free, and
--- the report is that of the search as it then stands.
+-- `held::Search::enter` meets its contract: the slot and the count that `judge_parts` says are stored.
 -- Assumes nothing.
-use mathlib.Core.Path.{_≡_, sym, ap, subst, _∙_}
+use mathlib.Core.Path.{_≡_, ap₂}
+use native.Mathlib.Omega.{arith}
 use lib.ListN.{length}
-use Rattle.rules.specs.Rules.{slots}
-use Rattle.rules.specs.Search.{isRefused}
-use Rattle.rules.specs.SearchLaws.{SoundAt}
+use mir.Syntax.{w32}
+use mir.Val.{SFits}
 use Rattle.integers.specs.Bounds.{read}
-use Rattle.held.specs.Held.{triedOf}
-use Rattle.held.specs.HeldLaws.{sound-standing, sound-tried, free-slot, tried-is, enter-refused, enter-accepted}
+use Rattle.rules.specs.declared.Report.{Report}
+use Rattle.rules.specs.Rules.{slots}
+use Rattle.held.specs.declared.Search.{Search}
+use Rattle.held.specs.HeldLaws.{Stores, stores}
 use borrow.Author.Needs.{needs}
 use Rattle.held.proofs.Search.enter.Statement.{statement}
 use Rattle.held.proofs.Search.enter.Tie as tie
 
-standing-sound : (c : tie.After-standing) → SoundAt (c .before .before .args .self .opening) (c .standing .result)
-standing-sound c =
-    subst (SoundAt (c .before .before .args .self .opening)) (sym (c .standing .ensures)) (sound-standing (c .before .before .args .self))
-
-abbrev start-of : tie.After-offer-at → tie.Start
-start-of c = c .before .before .before
-
-long : (s : tie.Start) → length (s .args .self .slots) ≡ slots
+long : (s : tie.Start) → length (s .args .t1 .slots) ≡ slots
 long s = search needs
 
-tried : (c : tie.After-offer-at) → c .offer-at .result ≡ triedOf (start-of c .args .self) (start-of c .args .point) (start-of c .args .value)
-tried c =
-    let s = start-of c in
-    let p = c .before .standing in
-    tried-is (s .args .self) (s .args .point) (s .args .value) (p .result) (c .offer-at .result) (p .ensures)
-    (rw (read (s .fits .point), read (s .fits .value)) at (c .offer-at .ensures))
+abbrev start-of : tie.After-judge-parts → tie.Start
+start-of c = c .before .before .before .before
 
-tried-sound : (c : tie.After-offer-at) → SoundAt (start-of c .args .self .opening) (c .offer-at .result)
-tried-sound c =
-    let s = start-of c .args in
-    subst (SoundAt (s .self .opening)) (sym (tried c)) (sound-tried (s .self) (s .point) (s .value))
+stored : (c : tie.After-judge-parts) → Stores (start-of c .args .t1) (start-of c .args .point) (start-of c .args .value) (c .judge-parts .result)
+stored c = let s = start-of c in stores _ _ _ _ (long s) (rw (read (s .fits .point), read (s .fits .value)) at (c .judge-parts .ensures))
 
-standing-requires : tie.Need-standing-requires
-standing-requires c κs = search needs
+judge-parts-requires : tie.Need-judge-parts-requires
+judge-parts-requires c κs = search needs
 
-offer-at-requires : tie.Need-offer-at-requires
-offer-at-requires c κs = standing-sound c
+mul-kept : tie.Need-mul-kept
+mul-kept c = omega (arith, stored (c .before) .room)
 
-report-at-requires : tie.Need-report-at-requires
-report-at-requires c κs = tried-sound c
-
-is-refused-requires : tie.Need-is-refused-requires
-is-refused-requires c κs = search needs
+element-set-from-kept : tie.Need-element-set-from-kept
+element-set-from-kept c = stored (c .before) .room
 
 returns : tie.Need-returns
 returns c =
-    let q = c .before .before .before in
-    let s = start-of q .args in
-    enter-refused (s .self) (s .point) (s .value) (q .offer-at .result) (c .before .before .report-at .result)
-    (tried q)
-    (c .before .before .report-at .ensures)
-    (sym (c .before .is-refused .ensures) ∙ c .if1 .taken)
-
-with-value-requires : tie.Need-with-value-requires
-with-value-requires c κs =
-    let q = c .before .before .before in
-    let s = start-of q .args in
-    free-slot (s .self) (s .point) (s .value) (long (start-of q)) (sym (ap isRefused (tried q)) ∙ sym (c .before .is-refused .ensures) ∙ c .if1 .left)
-
-returns-2 : tie.Need-returns-2
-returns-2 c =
-    let d = c .before in
-    let q = d .before .before .before in
-    let s = start-of q .args in
-    enter-accepted (s .self) (s .point) (s .value) (q .offer-at .result) (d .before .before .report-at .result)
-    (tried q)
-    (d .before .before .report-at .ensures)
-    (long (start-of q))
-    (sym (d .before .is-refused .ensures) ∙ d .if1 .left)
-    (c .with-value .result)
-    (rw (read (start-of q .fits .value)) at (c .with-value .ensures))
+    let v = c .before .judge-parts .result in
+    let f : SFits w32 (v .value) = search needs in
+    rw (read f) (ap₂ (λ (r : Report) (h : Search). record { report = r; search = h }) (stored (c .before) .told) (stored (c .before) .left))
 
 pub enter-spec : {M : Type 1} → statement M
-enter-spec =
-    tie.close
-    (tie.spec
-    standing-requires
-    offer-at-requires
-    report-at-requires
-    is-refused-requires
-    returns
-    with-value-requires
-    returns-2)
+enter-spec = tie.close (tie.spec judge-parts-requires mul-kept element-set-from-kept returns)

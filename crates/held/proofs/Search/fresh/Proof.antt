@@ -1,33 +1,28 @@
--- `held::Search::fresh` meets its contract: a refused opening begins with its refusal, and an accepted one with the report on no
--- value.
+-- `held::Search::fresh` meets its contract: a refused opening is told beside a blank, and an accepted one begins at its first end.
 -- Assumes nothing.
-use mathlib.Core.Path.{sym, subst, _∙_}
-use Rattle.rules.specs.SearchLaws.{SoundAt, sound-begin}
-use Rattle.held.specs.HeldLaws.{open-refused, open-accepted}
+use mathlib.Core.Path.{ap, _∙_}
 use borrow.Author.Needs.{needs}
+use lib.IntN.{natAbs}
+use mir.Syntax.{w32}
+use mir.Val.{SFits}
+use Rattle.integers.specs.Bounds.{read}
+use Rattle.held.specs.HeldLaws.{open-refused, open-accepted}
 use Rattle.held.proofs.Search.fresh.Statement.{statement}
 use Rattle.held.proofs.Search.fresh.Tie as tie
 
-begin-requires : tie.Need-begin-requires
-begin-requires c κs = search needs
-
-report-at-requires : tie.Need-report-at-requires
-report-at-requires c κs = subst (SoundAt (c .before .args .opening)) (sym (c .begin .ensures)) (sound-begin (c .before .args .opening))
-
-is-refused-requires : tie.Need-is-refused-requires
-is-refused-requires c κs = search needs
+opening-refusal-requires : tie.Need-opening-refusal-requires
+opening-refusal-requires c κs = search needs
 
 holding-requires : tie.Need-holding-requires
 holding-requires c κs = search needs
 
 returns : tie.Need-returns
 returns c =
-    let p = c .before .before .before in
-    open-refused (p .before .before .args .opening) (p .before .begin .result) (p .report-at .result) (c .holding .result)
-    (p .before .begin .ensures)
-    (p .report-at .ensures)
-    (sym (c .before .before .is-refused .ensures) ∙ c .before .if1 .taken)
-    (c .holding .ensures)
+    let n = c .before .before .opening-refusal in
+    open-refused _ (n .result) (c .holding .result) (n .ensures) (c .before .if1 .taken) (c .holding .ensures)
+
+magnitude-requires : tie.Need-magnitude-requires
+magnitude-requires c κs = search needs
 
 holding-requires-2 : tie.Need-holding-requires-2
 holding-requires-2 c κs = search needs
@@ -35,20 +30,17 @@ holding-requires-2 c κs = search needs
 returns-2 : tie.Need-returns-2
 returns-2 c =
     let p = c .before .before .before in
-    open-accepted (p .before .before .args .opening) (p .before .begin .result) (p .report-at .result) (c .holding2 .result)
-    (p .before .begin .ensures)
-    (p .report-at .ensures)
-    (sym (c .before .before .is-refused .ensures) ∙ c .before .if1 .left)
-    (c .holding2 .ensures)
+    let n = p .before .opening-refusal in
+    let f : SFits w32 (p .before .before .args .opening .first) = search needs in
+    open-accepted _ (n .result) (c .holding2 .result) (n .ensures) (p .if1 .left) _ (c .before .magnitude .ensures ∙ ap natAbs (read f)) (c .holding2 .ensures)
 
 pub fresh-spec : {M : Type 1} → statement M
 fresh-spec =
     tie.close
     (tie.spec
-    begin-requires
-    report-at-requires
-    is-refused-requires
+    opening-refusal-requires
     holding-requires
     returns
+    magnitude-requires
     holding-requires-2
     returns-2)

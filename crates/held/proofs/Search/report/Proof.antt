@@ -1,23 +1,24 @@
--- `held::Search::report` meets its contract: the report on where the search stands.
+-- `held::Search::report` meets its contract: no answer comes after the values held.
 -- Assumes nothing.
-use mathlib.Core.Path.{sym, ap, subst, _∙_}
-use Rattle.rules.specs.Search.{reportAt}
-use Rattle.rules.specs.SearchLaws.{SoundAt}
-use Rattle.held.specs.Held.{heldReport}
-use Rattle.held.specs.HeldLaws.{sound-standing}
 use borrow.Author.Needs.{needs}
+use Rattle.rules.specs.Search.{answersOf}
+use Rattle.held.specs.Held.{standingOf, heldReport}
 use Rattle.held.proofs.Search.report.Statement.{statement}
 use Rattle.held.proofs.Search.report.Tie as tie
 
-standing-requires : tie.Need-standing-requires
-standing-requires c κs = search needs
+slice-aggregate-told : tie.Need-slice-aggregate-told
+slice-aggregate-told c = search needs
 
-report-at-requires : tie.Need-report-at-requires
-report-at-requires c κs = subst (SoundAt (c .before .args .self .opening)) (sym (c .standing .ensures)) (sound-standing (c .before .args .self))
+slice-aggregate-told-2 : tie.Need-slice-aggregate-told-2
+slice-aggregate-told-2 c = search needs
+
+told-requires : tie.Need-told-requires
+told-requires c κs = search needs
 
 returns : tie.Need-returns
-unfolding heldReport
-returns c = c .report-at .ensures ∙ ap (reportAt (c .before .before .args .self .opening)) (c .before .standing .ensures)
+unfolding heldReport standingOf answersOf
+returns c = c .told .ensures
 
 pub report-spec : {M : Type 1} → statement M
-report-spec = tie.close (tie.spec standing-requires report-at-requires returns)
+report-spec =
+    tie.close (tie.spec slice-aggregate-told slice-aggregate-told-2 told-requires returns)
