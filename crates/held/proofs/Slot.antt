@@ -128,7 +128,7 @@ is-stored h n k z was fits i =
     let x = SL.owed S.the-type S′.the-laws h (vals search h) was in
     let a = x .1 .1 .0 in
     let e : set (held (h .slots)) k z ≡ held (set (h .slots) k z) = map-set (i32-field .into) (h .slots) k z in
-    let l : length (held (set (h .slots) k z)) ≡ 72 = length-map (set (h .slots) k z) (i32-field .into) ∙ length-set (h .slots) k z ∙ long h was in
+    let l : length (held (set (h .slots) k z)) ≡ slots = length-map (set (h .slots) k z) (i32-field .into) ∙ length-set (h .slots) k z ∙ long h was in
     let s : Each (held (set (h .slots) k z)) (map cell (held (set (h .slots) k z))) = subst (λ (zs : List ℤ). Each zs (map cell zs)) e (each-set (held (h .slots)) k z (own-values (held (h .slots)) (a .0) (a .1 .1)) i) in
     SL.owes S.the-type S′.the-laws (record { opening = h .opening; count = n; slots = set (h .slots) k z })
     (x .0, ((refl, fits), ((map cell (held (set (h .slots) k z)), ((refl, l), s)), tt)))
@@ -206,7 +206,7 @@ module _ (R : Plain) (E : Verdicts R) (L : VerdictLaws E) where
     Holds c = (κs : Lfts 1) (a : Args (ended .signature) κs) (g : c κs a .ghost) → length (now (a .0) .slots) ≡ slots → (r : E .type .Denot) → r ≡ of (now (a .0)) (a .1 .0) (a .1 .1 .0)
         → ent 𝓤 (emp 𝓤) (c κs a .ensures g (E .told r) (atExit ended κs a (stored E (now (a .0)) r, (tt, (tt, tt)))))
 
-    module _ (c : Clauses 𝓤 ended) (holding : Holds c) where
+    module _ (c : Clauses 𝓤 ended) (unanswered : Holds c) where
       -- ---- the walk
 
       module _ (W : Given 𝓤 H A) (κ : Lft) (q : Share) (b o : ℕ) (γ : GName) (h : Search) (p z : ℤ) (p-is : Is i32 p (sint-vals w32 p))
@@ -237,7 +237,7 @@ module _ (R : Plain) (E : Verdicts R) (L : VerdictLaws E) where
             qed W (‵ (fobs γ (row search .coded .code (stored E h r))) ∷ ‵ (fbor κ (Body (mem (row search)) b o γ)) ∷ ‵ (flft κ q) ∷ []) ∵
             suffices ! _ (ends-at 𝓤 H A ended stayed c W (((κ, tt), (q, tt), tt, x, at), g) (R .val (E .told r)) (E .told r)
             (stored E h r, (tt, (tt, tt))) (tt, (tt, (tt, tt)))) $
-            holds ! (holding (κ, tt) x g l r e) $ nothing ! $ move ! (3 ∷ 0 ∷ []) $ join ! $ frame ! $
+            holds ! (unanswered (κ, tt) x g l r e) $ nothing ! $ move ! (3 ∷ 0 ∷ []) $ join ! $ frame ! $
             feqI ! (List Val) (vptr b o ∷ []) (vptr b o ∷ []) refl $ fjoin3 ! $ nothing ! $ number ! z z-is $ number ! p p-is $
             move ! (1 ∷ 0 ∷ []) $ fjoin ! $ frame ! $
             owned ! (row R) (Is (row R)) (R .makes 𝓤 H A) (E .told r) _ is $ done !
@@ -250,7 +250,7 @@ module _ (R : Plain) (E : Verdicts R) (L : VerdictLaws E) where
           room : E .at r < slots
           room = subst (λ (y : E .type .Denot). E .at y < slots) (sym e) (within h p z (long h was))
 
-          many : length us ≡ 72
+          many : length us ≡ slots
           many = length-map (held (h .slots)) cell ∙ length-map (h .slots) (i32-field .into) ∙ long h was
 
           inside : E .at r < length us
@@ -326,6 +326,6 @@ module _ (R : Plain) (E : Verdicts R) (L : VerdictLaws E) where
         → (γ : Env) (k step : Name) → Closed 𝓤 H (tables 𝓤 H 𝓜 𝓡 γ .C) (tables 𝓤 H 𝓜 𝓡 γ .Λ) k (function step)
         → (r : Routine) → γ step ≡ r → Triple 𝓤 (𝓡 .run r) (StepC of within 𝓤 H (𝓖 .A))
         → Triple 𝓤 (tables 𝓤 H 𝓜 𝓡 γ .C k) (tripleOf 𝓤 H (𝓖 .A) (ended .signature) (closing 𝓤 H (𝓖 .A) ended c))
-    stores-two c holding γ k step closed r p met =
+    stores-two c unanswered γ k step closed r p met =
         by-one-call 𝓤 H 𝓜 𝓖 𝓡 ended stayed c (goes 𝓤 H (𝓖 .A) (givenOf 𝓤 H 𝓜 𝓖)) γ k (function step) closed (StepC of within 𝓤 H (𝓖 .A)) step r p met
-        (walks of within 𝓤 H (𝓖 .A) c holding (givenOf 𝓤 H 𝓜 𝓖) step)
+        (walks of within 𝓤 H (𝓖 .A) c unanswered (givenOf 𝓤 H 𝓜 𝓖) step)

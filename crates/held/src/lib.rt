@@ -1,6 +1,7 @@
 // Held searches: a search that keeps its own list of values.
 ghost use mathlib.Core.Path.{_≡_};
 ghost use lib.ListN.{length, take};
+ghost use Rattle.rules.specs.Rules.{slots};
 ghost use Rattle.rules.specs.Search.{answersOf, reportAt, isRefusal};
 ghost use Rattle.held.specs.Held.{freshOf, openOf, heldReport, enterOf};
 ghost use Rattle.held.specs.HeldLaws.{standingBy, searchOf, verdictOf};
@@ -12,7 +13,7 @@ use rules::Report;
 pub struct Search {
     pub opening: Opening,
     pub count: u32,
-    pub slots: [i32; 72],
+    pub slots: [i32; rules::SLOTS],
 }
 
 // A report, and beside it the search as it then is.
@@ -30,30 +31,30 @@ pub struct Verdict {
 }
 
 // A search of an opening with no answer.
-fn holding(opening: Opening) -> Search
+fn unanswered(opening: Opening) -> Search
     ensures { λ r. ⌜ r ≡ freshOf opening ⌝ }
 {
     Search {
         opening,
         count: 0,
-        slots: [0; 72],
+        slots: [0; rules::SLOTS],
     }
 }
 
 // The report on a held search's parts, with further answers after the values held: the count is checked, then the opening, then the
 // values and the answers.
-fn told(opening: Opening, count: u32, slots: &[i32], points: &[i32], values: &[i32]) -> Report
-    requires { ⌜ (length (now slots) ≡ 72) × (length (now points) ≡ length (now values)) ⌝ }
-    ensures { λ r. ⌜ r ≡ reportAt opening (answersOf opening (standingBy count opening (take count (now (slots .entry)))) (now (points .entry)) (now (values .entry))) ⌝ }
+fn told(opening: Opening, count: u32, held: &[i32], points: &[i32], values: &[i32]) -> Report
+    requires { ⌜ (length (now held) ≡ slots) × (length (now points) ≡ length (now values)) ⌝ }
+    ensures { λ r. ⌜ r ≡ reportAt opening (answersOf opening (standingBy count opening (take count (now (held .entry)))) (now (points .entry)) (now (values .entry))) ⌝ }
 {
-    if Search::SLOTS < count {
+    if rules::SLOTS < count as usize {
         return Report::Refused {
             number: 9,
             place: 0,
         };
     }
     let n = count as usize;
-    walk::follow(opening, &slots[..n], points, values)
+    walk::follow(opening, &held[..n], points, values)
 }
 
 // Whether a report is a refusal.
@@ -79,7 +80,7 @@ fn is_refusal(r: Report) -> bool
 pub fn judge_parts(
     opening: Opening,
     count: u32,
-    slots: &[i32; 72],
+    slots: &[i32; rules::SLOTS],
     point: i32,
     value: i32,
 ) -> Verdict
@@ -119,7 +120,7 @@ impl Search {
 
     pub const LARGEST_VALUE: u32 = rules::LARGEST_VALUE;
 
-    pub const SLOTS: u32 = rules::SLOTS;
+    pub const SLOTS: usize = rules::SLOTS;
 
     // A fresh search and its report. A refused opening makes none: beside the refusal stands a blank, which every call refuses.
     pub fn fresh(opening: Opening) -> Entered
@@ -138,13 +139,13 @@ impl Search {
                     number: n,
                     place: 0,
                 },
-                search: holding(nothing),
+                search: unanswered(nothing),
             };
         }
         let point = interpolation::magnitude(opening.first);
         Entered {
             report: Report::Next { point, taken: 0 },
-            search: holding(opening),
+            search: unanswered(opening),
         }
     }
 

@@ -7,14 +7,14 @@ pub record Answer : Type 0 where
   pub point : ℤ
   pub value : ℤ
 
-abbrev pub pointOf : Answer → ℤ
-pointOf a = a .point
+abbrev pub answerPoint : Answer → ℤ
+answerPoint a = a .point
 
-abbrev pub valueOf : Answer → ℤ
-valueOf a = a .value
+abbrev pub answerValue : Answer → ℤ
+answerValue a = a .value
 
 abbrev pub points : List Answer → List ℤ
-points answers = map pointOf answers
+points answers = map answerPoint answers
 
 abbrev pub values : List Answer → List ℤ
-values answers = map valueOf answers
+values answers = map answerValue answers

@@ -39,10 +39,10 @@ stopOf o (a ∷ []) = false
 stopOf o (a ∷ b ∷ rest) = stoppedOf o (bracketOf a b rest)
 
 -- x0 is called for at 0, x1 at 1
-unfoldable pub pointOf : Opening → List Answer → ℕ
-pointOf o [] = firstOf o
-pointOf o (a ∷ []) = secondOf o
-pointOf o (a ∷ b ∷ rest) = nextOf o (bracketOf a b rest)
+unfoldable pub pointCalled : Opening → List Answer → ℕ
+pointCalled o [] = firstOf o
+pointCalled o (a ∷ []) = secondOf o
+pointCalled o (a ∷ b ∷ rest) = nextOf o (bracketOf a b rest)
 
 -- ---- the report: the point and n, or at the stop lower, upper, b and n
 
@@ -51,8 +51,8 @@ reportWith o k n =
     cond (stoppedOf o k) (Report.Stop (lowerOf k) (upperOf k) (k .better .point) n) (Report.Next (nextOf o k) n)
 
 unfoldable pub journalReport : Opening → List Answer → Report
-journalReport o [] = Report.Next (pointOf o []) 0
-journalReport o (a ∷ []) = Report.Next (pointOf o (a ∷ [])) 1
+journalReport o [] = Report.Next (pointCalled o []) 0
+journalReport o (a ∷ []) = Report.Next (pointCalled o (a ∷ [])) 1
 journalReport o (a ∷ b ∷ rest) = reportWith o (bracketOf a b rest) (length (a ∷ b ∷ rest))
 
 -- ---- an offered answer, tried against the row "Each answer in turn", with this stop and this point
@@ -65,36 +65,36 @@ oneSide (a ∷ b ∷ rest) v = false
 
 -- the first refusal that applies, 0 where none does
 unfoldable pub refusalOf : Opening → List Answer → Answer → ℕ
-refusalOf o book a =
-    cond (stopOf o book) 5
-    (cond (not (eqZ (a .point) (pos (pointOf o book)))) 6
+refusalOf o journal a =
+    cond (stopOf o journal) 5
+    (cond (not (eqZ (a .point) (pos (pointCalled o journal)))) 6
     (cond (ltb largestValue (natAbs (a .value))) 7
-    (cond (oneSide book (a .value)) 8 0)))
+    (cond (oneSide journal (a .value)) 8 0)))
 
 abbrev pub takes : Opening → List Answer → Answer → Bool
-takes o book a = eqb (refusalOf o book a) 0
+takes o journal a = eqb (refusalOf o journal a) 0
 
--- refused: the book stays; otherwise the answer is put at its end
-unfoldable pub bookWith : Opening → List Answer → Answer → List Answer
-bookWith o book a = cond (takes o book a) (book ++ (a ∷ [])) book
+-- refused: the journal stays; otherwise the answer is put at its end
+unfoldable pub journalWith : Opening → List Answer → Answer → List Answer
+journalWith o journal a = cond (takes o journal a) (journal ++ (a ∷ [])) journal
 
--- what the call answers: the book's new report, or the refusal with index n
+-- what the call answers: the journal's new report, or the refusal with index n
 unfoldable pub toldOf : Opening → List Answer → Answer → Report
-toldOf o book a = cond (takes o book a) (journalReport o (book ++ (a ∷ []))) (Report.Refused (refusalOf o book a) (length book))
+toldOf o journal a = cond (takes o journal a) (journalReport o (journal ++ (a ∷ []))) (Report.Refused (refusalOf o journal a) (length journal))
 
 -- ---- a run
 
--- the book once all have been offered
-unfoldable pub bookAfter : Opening → List Answer → List Answer → List Answer
-bookAfter o book [] = book
-bookAfter o book (a ∷ offers) = bookAfter o (bookWith o book a) offers
+-- the journal once all have been offered
+unfoldable pub journalAfter : Opening → List Answer → List Answer → List Answer
+journalAfter o journal [] = journal
+journalAfter o journal (a ∷ offers) = journalAfter o (journalWith o journal a) offers
 
 -- what the calls answer, in turn
 unfoldable pub toldAll : Opening → List Answer → List Answer → List Report
-toldAll o book [] = []
-toldAll o book (a ∷ offers) = toldOf o book a ∷ toldAll o (bookWith o book a) offers
+toldAll o journal [] = []
+toldAll o journal (a ∷ offers) = toldOf o journal a ∷ toldAll o (journalWith o journal a) offers
 
--- the book's brackets after each entry, from the second on
+-- the journal's brackets after each entry, from the second on
 abbrev pub bracketsFrom : Bracket → List Answer → List Bracket
 bracketsFrom k [] = k ∷ []
 bracketsFrom k (a ∷ rest) = k ∷ bracketsFrom (advanceOf k (sampleOf a)) rest

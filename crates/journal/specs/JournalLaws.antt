@@ -1,4 +1,4 @@
--- The book and the search over a list come to the same: what is known of a book that answers have made, where the list of its values
+-- The journal and the search over a list come to the same: what is known of a journal that answers have made, where the list of its values
 -- leads, and what its brackets are.
 -- Assumes nothing.
 use Prim.Native.Nat.{ℕ, _≤_, _<_}
@@ -21,10 +21,10 @@ use Rattle.rules.specs.RefusalsLaws.{Opened, opposed-crossing}
 use Rattle.rules.specs.RulesLaws.{Inside}
 use Rattle.rules.specs.Search.{isRefused, beginOf, stoppedAt, sameSideAt, otherAt, enteredAt, offerOf, takeOf, progressOf, bracketReport, reportAt, reportOf, mostOf}
 use Rattle.rules.specs.SearchLaws.{Sound, sound-start, sound-advance, advanced, counts, at-most, before-stop}
-use Rattle.journal.specs.Answers.{Answer, valueOf, values}
-use Rattle.journal.specs.Journal.{sampleOf, advancedBy, bracketOf, stopOf, pointOf, reportWith, journalReport, oneSide, refusalOf, takes, bracketsFrom, bracketsOf}
+use Rattle.journal.specs.Answers.{Answer, answerValue, values}
+use Rattle.journal.specs.Journal.{sampleOf, advancedBy, bracketOf, stopOf, pointCalled, reportWith, journalReport, oneSide, refusalOf, takes, bracketsFrom, bracketsOf}
 
--- ---- where a search of the book's values stands
+-- ---- where a search of the journal's values stands
 
 abbrev pub stageOf : List Answer → Progress
 stageOf [] = Progress.Begun
@@ -32,37 +32,37 @@ stageOf (a ∷ []) = Progress.First (a .value)
 stageOf (a ∷ b ∷ rest) = Progress.Bracketed (bracketOf a b rest)
 
 -- the two have one stop, and one point called for while there is no stop
-stop-stage : (o : Opening) (book : List Answer) → stopOf o book ≡ stoppedAt o (stageOf book)
+stop-stage : (o : Opening) (journal : List Answer) → stopOf o journal ≡ stoppedAt o (stageOf journal)
 unfolding stopOf
 stop-stage o [] = refl
 stop-stage o (a ∷ []) = refl
 stop-stage o (a ∷ b ∷ rest) = refl
 
-side-stage : (book : List Answer) (v : ℤ) → oneSide book v ≡ sameSideAt (stageOf book) v
+side-stage : (journal : List Answer) (v : ℤ) → oneSide journal v ≡ sameSideAt (stageOf journal) v
 unfolding sameSide
 side-stage [] v = refl
 side-stage (a ∷ []) v = refl
 side-stage (a ∷ b ∷ rest) v = refl
 
-other-stage : (o : Opening) (book : List Answer) (x : ℤ) → stopOf o book ≡ false → not (eqZ x (pos (pointOf o book))) ≡ otherAt o (stageOf book) x
-unfolding stopOf pointOf
+other-stage : (o : Opening) (journal : List Answer) (x : ℤ) → stopOf o journal ≡ false → not (eqZ x (pos (pointCalled o journal))) ≡ otherAt o (stageOf journal) x
+unfolding stopOf pointCalled
 other-stage o [] x e = refl
 other-stage o (a ∷ []) x e = refl
 other-stage o (a ∷ b ∷ rest) x e = simp e
 
 -- so they refuse alike
-pub refusal-stage : (o : Opening) (book : List Answer) (a : Answer)
-    → refusalOf o book a ≡ answerRefusal (stoppedAt o (stageOf book)) (otherAt o (stageOf book) (a .point)) (tooLarge (a .value)) (sameSideAt (stageOf book) (a .value))
+pub refusal-stage : (o : Opening) (journal : List Answer) (a : Answer)
+    → refusalOf o journal a ≡ answerRefusal (stoppedAt o (stageOf journal)) (otherAt o (stageOf journal) (a .point)) (tooLarge (a .value)) (sameSideAt (stageOf journal) (a .value))
 unfolding refusalOf answerRefusal
-refusal-stage o book a = go (stopOf o book) refl
+refusal-stage o journal a = go (stopOf o journal) refl
   where
-    go : (b : Bool) → stopOf o book ≡ b
-        → _≡_ {A = ℕ} (cond b 5 (cond (not (eqZ (a .point) (pos (pointOf o book)))) 6 (cond (tooLarge (a .value)) 7 (cond (oneSide book (a .value)) 8 0))))
-        (cond (stoppedAt o (stageOf book)) 5 (cond (otherAt o (stageOf book) (a .point)) 6 (cond (tooLarge (a .value)) 7 (cond (sameSideAt (stageOf book) (a .value)) 8 0))))
-    go true e = rw (sym (stop-stage o book) ∙ e)
-    go false e = rw (sym (stop-stage o book) ∙ e, other-stage o book (a .point) e, side-stage book (a .value))
+    go : (b : Bool) → stopOf o journal ≡ b
+        → _≡_ {A = ℕ} (cond b 5 (cond (not (eqZ (a .point) (pos (pointCalled o journal)))) 6 (cond (tooLarge (a .value)) 7 (cond (oneSide journal (a .value)) 8 0))))
+        (cond (stoppedAt o (stageOf journal)) 5 (cond (otherAt o (stageOf journal) (a .point)) 6 (cond (tooLarge (a .value)) 7 (cond (sameSideAt (stageOf journal) (a .value)) 8 0))))
+    go true e = rw (sym (stop-stage o journal) ∙ e)
+    go false e = rw (sym (stop-stage o journal) ∙ e, other-stage o journal (a .point) e, side-stage journal (a .value))
 
--- ---- what is known of a book that answers have made
+-- ---- what is known of a journal that answers have made
 
 -- each answer after the second came while the search went on, with the next point and a value in range
 pub record Next (o : Opening) (k : Bracket) (a : Answer) : Type 0 where
@@ -86,19 +86,19 @@ Kept o (a ∷ b ∷ rest) =
     At (firstOf o) a × At (secondOf o) b × (sameSide (a .value) (b .value) ≡ false) × Onward o (startOf (sampleOf a) (sampleOf b)) rest
 
 -- what an answer that no refusal meets is
-pub record Fine (o : Opening) (book : List Answer) (a : Answer) : Type 0 where
-  pub going : stopOf o book ≡ false
-  pub called : a .point ≡ pos (pointOf o book)
+pub record Fine (o : Opening) (journal : List Answer) (a : Answer) : Type 0 where
+  pub going : stopOf o journal ≡ false
+  pub called : a .point ≡ pos (pointCalled o journal)
   pub ranged : natAbs (a .value) ≤ largestValue
-  pub crossing : oneSide book (a .value) ≡ false
+  pub crossing : oneSide journal (a .value) ≡ false
 
-pub fine : (o : Opening) (book : List Answer) (a : Answer) → takes o book a ≡ true → Fine o book a
+pub fine : (o : Opening) (journal : List Answer) (a : Answer) → takes o journal a ≡ true → Fine o journal a
 unfolding refusalOf
-fine o book a t =
-    go (stopOf o book) refl (eqZ (a .point) (pos (pointOf o book))) refl (ltb largestValue (natAbs (a .value))) refl (oneSide book (a .value)) refl (eqb-true (refusalOf o book a) 0 t)
+fine o journal a t =
+    go (stopOf o journal) refl (eqZ (a .point) (pos (pointCalled o journal))) refl (ltb largestValue (natAbs (a .value))) refl (oneSide journal (a .value)) refl (eqb-true (refusalOf o journal a) 0 t)
   where
-    go : (s : Bool) → stopOf o book ≡ s → (p : Bool) → eqZ (a .point) (pos (pointOf o book)) ≡ p → (l : Bool) → ltb largestValue (natAbs (a .value)) ≡ l
-        → (d : Bool) → oneSide book (a .value) ≡ d → _≡_ {A = ℕ} (cond s 5 (cond (not p) 6 (cond l 7 (cond d 8 0)))) 0 → Fine o book a
+    go : (s : Bool) → stopOf o journal ≡ s → (p : Bool) → eqZ (a .point) (pos (pointCalled o journal)) ≡ p → (l : Bool) → ltb largestValue (natAbs (a .value)) ≡ l
+        → (d : Bool) → oneSide journal (a .value) ≡ d → _≡_ {A = ℕ} (cond s 5 (cond (not p) 6 (cond l 7 (cond d 8 0)))) 0 → Fine o journal a
     go true e p f l g d h i = absurd (omega arith)
     go false e false f l g d h i = absurd (omega arith)
     go false e true f true g d h i = absurd (omega arith)
@@ -110,14 +110,14 @@ onward-more : (o : Opening) (k : Bracket) (rest : List Answer) (a : Answer) → 
 onward-more o k [] a w n = (n, tt)
 onward-more o k (x ∷ rest) a w n = (w .0, onward-more o (advanceOf k (sampleOf x)) rest a (w .1) n)
 
-pub kept-more : (o : Opening) (book : List Answer) (a : Answer) → Kept o book → Fine o book a → Kept o (book ++ (a ∷ []))
-unfolding stopOf pointOf sameSide
+pub kept-more : (o : Opening) (journal : List Answer) (a : Answer) → Kept o journal → Fine o journal a → Kept o (journal ++ (a ∷ []))
+unfolding stopOf pointCalled sameSide
 kept-more o [] a k f = record { called = f .called; ranged = f .ranged }
 kept-more o (x ∷ []) a k f = (k, record { called = f .called; ranged = f .ranged }, f .crossing, tt)
 kept-more o (x ∷ y ∷ rest) a k f =
     (k .0, k .1, k .2, onward-more o (startOf (sampleOf x) (sampleOf y)) rest a (k .3) (record { going = f .going; called = f .called; ranged = f .ranged }))
 
--- ---- the list of the book's values leads to the book's stage
+-- ---- the list of the journal's values leads to the journal's stage
 
 -- an answer that was called for is the sample that the search enters
 pub sample-is : (a : Answer) (x : ℕ) → a .point ≡ pos x → sampleOf a ≡ record { point = x; value = a .value }
@@ -154,7 +154,7 @@ onward-folds o k (a ∷ rest) w =
     ap (λ (p : Progress). foldl (takeOf o) p (values rest)) (next-taken o k a (w .0))
     ∙ onward-folds o (advanceOf k (sampleOf a)) rest (w .1)
 
-pub kept-progress : (o : Opening) (book : List Answer) → Accepted o → Kept o book → progressOf o (values book) ≡ stageOf book
+pub kept-progress : (o : Opening) (journal : List Answer) → Accepted o → Kept o journal → progressOf o (values journal) ≡ stageOf journal
 unfolding progressOf beginOf
 kept-progress o [] a k = simp (eq-eqb (openingRefusal o) 0 (a .accepted))
 kept-progress o (x ∷ []) a k = simp (eq-eqb (openingRefusal o) 0 (a .accepted)) (first-taken o x k)
@@ -164,54 +164,54 @@ kept-progress o (x ∷ y ∷ rest) a k =
     ∙ ap (λ (p : Progress). foldl (takeOf o) p (values rest)) (second-taken o x y (k .0) (k .1) (k .2))
     ∙ onward-folds o (startOf (sampleOf x) (sampleOf y)) rest (k .3))
 
--- ---- the book's report is that of its stage
+-- ---- the journal's report is that of its stage
 
 report-with : (o : Opening) (k : Bracket) (n : ℕ) → k .taken ≡ n → reportWith o k n ≡ bracketReport o k
 unfolding bracketReport
 report-with o k n e = rw (← e)
 
-module _ (o : Opening) (accepted : Accepted o) (book : List Answer) (kept : Kept o book) where
-  leads : progressOf o (values book) ≡ stageOf book
-  leads = kept-progress o book accepted kept
+module _ (o : Opening) (accepted : Accepted o) (journal : List Answer) (kept : Kept o journal) where
+  leads : progressOf o (values journal) ≡ stageOf journal
+  leads = kept-progress o journal accepted kept
 
-  pub report-stage : journalReport o book ≡ reportAt o (stageOf book)
-  unfolding journalReport reportAt pointOf
-  report-stage = go book refl leads
+  pub report-stage : journalReport o journal ≡ reportAt o (stageOf journal)
+  unfolding journalReport reportAt pointCalled
+  report-stage = go journal refl leads
     where
-      go : (b : List Answer) → book ≡ b → progressOf o (values book) ≡ stageOf b → journalReport o b ≡ reportAt o (stageOf b)
+      go : (b : List Answer) → journal ≡ b → progressOf o (values journal) ≡ stageOf b → journalReport o b ≡ reportAt o (stageOf b)
       go [] e f = refl
       go (x ∷ []) e f = refl
       go (x ∷ y ∷ rest) e f =
           report-with o (bracketOf x y rest) (length (x ∷ y ∷ rest))
-          (counts o accepted (values book) (bracketOf x y rest) f ∙ length-map book valueOf ∙ ap length e)
+          (counts o accepted (values journal) (bracketOf x y rest) f ∙ length-map journal answerValue ∙ ap length e)
 
-  -- over the list of its values the search gives the book's report
-  pub report-list : reportOf o (values book) ≡ journalReport o book
+  -- over the list of its values the search gives the journal's report
+  pub report-list : reportOf o (values journal) ≡ journalReport o journal
   unfolding reportOf
   report-list = ap (reportAt o) leads ∙ sym report-stage
 
   -- ---- the bound
 
   -- as many values as answers
-  as-many : length (values book) ≡ length book
-  as-many = length-map book valueOf
+  as-many : length (values journal) ≡ length journal
+  as-many = length-map journal answerValue
 
-  pub at-most-answers : length book ≤ mostOf o
-  at-most-answers = go book refl leads
+  pub at-most-answers : length journal ≤ mostOf o
+  at-most-answers = go journal refl leads
     where
-      go : (b : List Answer) → book ≡ b → progressOf o (values book) ≡ stageOf b → length book ≤ mostOf o
+      go : (b : List Answer) → journal ≡ b → progressOf o (values journal) ≡ stageOf b → length journal ≤ mostOf o
       go [] e f = omega (arith, ap length e)
       go (x ∷ []) e f = omega (arith, ap length e)
-      go (x ∷ y ∷ rest) e f = omega (arith, as-many, at-most o accepted (values book) (bracketOf x y rest) f)
+      go (x ∷ y ∷ rest) e f = omega (arith, as-many, at-most o accepted (values journal) (bracketOf x y rest) f)
 
-  pub fewer-answers : stopOf o book ≡ false → length book < mostOf o
+  pub fewer-answers : stopOf o journal ≡ false → length journal < mostOf o
   unfolding stopOf
-  fewer-answers = go book refl leads
+  fewer-answers = go journal refl leads
     where
-      go : (b : List Answer) → book ≡ b → progressOf o (values book) ≡ stageOf b → stopOf o b ≡ false → length book < mostOf o
+      go : (b : List Answer) → journal ≡ b → progressOf o (values journal) ≡ stageOf b → stopOf o b ≡ false → length journal < mostOf o
       go [] e f s = omega (arith, ap length e)
       go (x ∷ []) e f s = omega (arith, ap length e)
-      go (x ∷ y ∷ rest) e f s = omega (arith, as-many, before-stop o accepted (values book) (bracketOf x y rest) f s)
+      go (x ∷ y ∷ rest) e f s = omega (arith, as-many, before-stop o accepted (values journal) (bracketOf x y rest) f s)
 
 -- ---- the brackets: each lies within the one before, and its values are never both above or both below target
 
@@ -250,13 +250,13 @@ module _ (o : Opening) (op : Opened o) where
       subst₂ (λ (s t : Sample). Sound o (startOf s t)) (sym (sample-is a (firstOf o) (p .called))) (sym (sample-is b (secondOf o) (q .called)))
       (sound-start o (a .value) (b .value) op (p .ranged) (q .ranged) d)
 
-  pub kept-nested : (book : List Answer) → Kept o book → Nested (bracketsOf book)
+  pub kept-nested : (journal : List Answer) → Kept o journal → Nested (bracketsOf journal)
   unfolding bracketsOf
   kept-nested [] k = tt
   kept-nested (a ∷ []) k = tt
   kept-nested (a ∷ b ∷ rest) k = onward-nested (startOf (sampleOf a) (sampleOf b)) rest (start-sound a b (k .0) (k .1) (k .2)) (k .3)
 
-  pub kept-opposed : (book : List Answer) → Kept o book → Opposed (bracketsOf book)
+  pub kept-opposed : (journal : List Answer) → Kept o journal → Opposed (bracketsOf journal)
   unfolding bracketsOf
   kept-opposed [] k = tt
   kept-opposed (a ∷ []) k = tt

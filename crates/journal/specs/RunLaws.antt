@@ -1,5 +1,5 @@
--- One call of a search that holds a book's values answers as the book does, and leaves the search of the book's next state; and the
--- reader gives the book's report on a sheet of it.
+-- One call of a search that holds a journal's values answers as the journal does, and leaves the search of the journal's next state; and the
+-- reader gives the journal's report on a sheet of it.
 -- Assumes nothing.
 use Prim.Native.Nat.{ℕ, suc, _+_, _-_, _≤_, _<_}
 use mathlib.Core.Path.{_≡_, refl, sym, ap, ap₂, _∙_}
@@ -30,29 +30,29 @@ use Rattle.forms.specs.declared.Entries.{Entries}
 use Rattle.forms.specs.Entries.{filled, entriesOf}
 use Rattle.sheet.specs.Sheet.{leadsTo, settledAs, sheetOf}
 use Rattle.sheet.specs.SheetLaws.{outcome-accepted, sheet-read}
-use Rattle.journal.specs.Answers.{Answer, valueOf, points, values}
+use Rattle.journal.specs.Answers.{Answer, answerValue, points, values}
 use Rattle.journal.specs.Answers as Answers
-use Rattle.journal.specs.Journal.{sampleOf, advancedBy, bracketOf, pointOf, journalReport, refusalOf, takes, bookWith, toldOf}
+use Rattle.journal.specs.Journal.{sampleOf, advancedBy, bracketOf, pointCalled, journalReport, refusalOf, takes, journalWith, toldOf}
 use Rattle.journal.specs.SpellingLaws.{Short, ShortOpening, ShortAnswers}
 use Rattle.journal.specs.JournalLaws.{stageOf, refusal-stage, Onward, At, Kept, Fine, fine, kept-more, first-taken, second-taken, next-taken, kept-progress, sample-is, report-stage, at-most-answers, step-sound, start-sound}
 
--- ---- the search that holds a book's values
+-- ---- the search that holds a journal's values
 
 -- the opening, n as its count, the values in its first n slots in order, and 0 in the others
 abbrev pub slotsOf : List ℤ → List ℤ
 slotsOf vs = vs ++ replicate (slots - length vs) (pos 0)
 
 abbrev pub holding : Opening → List Answer → Search
-holding o book = record { opening = o; count = length book; slots = slotsOf (values book) }
+holding o journal = record { opening = o; count = length journal; slots = slotsOf (values journal) }
 
--- ---- the book's stage with one answer more
+-- ---- the journal's stage with one answer more
 
 advanced-more : (k : Bracket) (rest : List Answer) (a : Answer) → advancedBy k (rest ++ (a ∷ [])) ≡ advanceOf (advancedBy k rest) (sampleOf a)
 advanced-more k [] a = refl
 advanced-more k (x ∷ rest) a = advanced-more (advanceOf k (sampleOf x)) rest a
 
-stage-more : (o : Opening) (book : List Answer) (a : Answer) → Kept o book → Fine o book a → enteredAt o (stageOf book) (a .value) ≡ stageOf (book ++ (a ∷ []))
-unfolding pointOf
+stage-more : (o : Opening) (journal : List Answer) (a : Answer) → Kept o journal → Fine o journal a → enteredAt o (stageOf journal) (a .value) ≡ stageOf (journal ++ (a ∷ []))
+unfolding pointCalled
 stage-more o [] a k f = refl
 stage-more o (x ∷ []) a k f =
     ap₂ (λ (s t : Sample). Progress.Bracketed (startOf s t)) (sym (sample-is x (firstOf o) (k .called))) (sym (sample-is a (secondOf o) (f .called)))
@@ -60,56 +60,56 @@ stage-more o (x ∷ y ∷ rest) a k f =
     ap (λ (s : Sample). Progress.Bracketed (advanceOf (bracketOf x y rest) s)) (sym (sample-is a (nextOf o (bracketOf x y rest)) (f .called)))
     ∙ ap Progress.Bracketed (sym (advanced-more (startOf (sampleOf x) (sampleOf y)) rest a))
 
-stage-fine : (book : List Answer) → isRefused (stageOf book) ≡ false
+stage-fine : (journal : List Answer) → isRefused (stageOf journal) ≡ false
 stage-fine [] = refl
 stage-fine (x ∷ []) = refl
 stage-fine (x ∷ y ∷ rest) = refl
 
-offer-stage : (o : Opening) (book : List Answer) (other : Bool) (v : ℤ) → offerOf o (stageOf book) other v ≡ answeredAt o (stageOf book) other v
+offer-stage : (o : Opening) (journal : List Answer) (other : Bool) (v : ℤ) → offerOf o (stageOf journal) other v ≡ answeredAt o (stageOf journal) other v
 unfolding offerOf
 offer-stage o [] other v = refl
 offer-stage o (x ∷ []) other v = refl
 offer-stage o (x ∷ y ∷ rest) other v = refl
 
-map-more : (book : List Answer) (a : Answer) → values (book ++ (a ∷ [])) ≡ values book ++ (a .value ∷ [])
+map-more : (journal : List Answer) (a : Answer) → values (journal ++ (a ∷ [])) ≡ values journal ++ (a .value ∷ [])
 map-more [] a = refl
-map-more (x ∷ book) a = ap (λ (vs : List ℤ). x .value ∷ vs) (map-more book a)
+map-more (x ∷ journal) a = ap (λ (vs : List ℤ). x .value ∷ vs) (map-more journal a)
 
 module _ (o : Opening) (accepted : Accepted o) where
-  module _ (book : List Answer) (kept : Kept o book) where
-    pub book-fits : length book ≤ slots
-    book-fits = omega (arith, at-most-answers o accepted book kept, most-slots o (opened o accepted))
+  module _ (journal : List Answer) (kept : Kept o journal) where
+    pub journal-fits : length journal ≤ slots
+    journal-fits = omega (arith, at-most-answers o accepted journal kept, most-slots o (opened o accepted))
 
-    as-many : length (values book) ≡ length book
-    as-many = length-map book valueOf
+    as-many : length (values journal) ≡ length journal
+    as-many = length-map journal answerValue
 
-    pub slots-full : length (slotsOf (values book)) ≡ slots
-    slots-full = simp (length-append, length-replicate) (omega (arith, book-fits, as-many))
+    pub slots-full : length (slotsOf (values journal)) ≡ slots
+    slots-full = simp (length-append, length-replicate) (omega (arith, journal-fits, as-many))
 
-    pub values-held : valuesOf (holding o book) ≡ values book
-    values-held = take-at (values book) _ (length book) as-many
+    pub values-held : valuesOf (holding o journal) ≡ values journal
+    values-held = take-at (values journal) _ (length journal) as-many
 
-    pub standing-held : standingOf (holding o book) ≡ stageOf book
+    pub standing-held : standingOf (holding o journal) ≡ stageOf journal
     unfolding standingOf
-    standing-held = simp (le-ltb slots (length book) book-fits) (ap (progressOf o) values-held ∙ kept-progress o book accepted kept)
+    standing-held = simp (le-ltb slots (length journal) journal-fits) (ap (progressOf o) values-held ∙ kept-progress o journal accepted kept)
 
-    taken-stage : takenOf (stageOf book) ≡ length book
-    taken-stage = go book refl
+    taken-stage : takenOf (stageOf journal) ≡ length journal
+    taken-stage = go journal refl
       where
-        go : (b : List Answer) → book ≡ b → takenOf (stageOf b) ≡ length book
+        go : (b : List Answer) → journal ≡ b → takenOf (stageOf b) ≡ length journal
         go [] e = sym (ap length e)
         go (x ∷ []) e = sym (ap length e)
         go (x ∷ y ∷ rest) e =
-            counts o accepted (values book) (bracketOf x y rest) (kept-progress o book accepted kept ∙ ap stageOf e) ∙ as-many
+            counts o accepted (values journal) (bracketOf x y rest) (kept-progress o journal accepted kept ∙ ap stageOf e) ∙ as-many
 
     -- where the search comes to
     tried-held : (a : Answer)
-        → triedOf (holding o book) (a .point) (a .value)
-        ≡ cond (takes o book a) (enteredAt o (stageOf book) (a .value)) (Progress.Refused (refusalOf o book a) (length book))
+        → triedOf (holding o journal) (a .point) (a .value)
+        ≡ cond (takes o journal a) (enteredAt o (stageOf journal) (a .value)) (Progress.Refused (refusalOf o journal a) (length journal))
     tried-held a =
         ap (λ (p : Progress). offerOf o p (otherAt o p (a .point)) (a .value)) standing-held
-        ∙ offer-stage o book (otherAt o (stageOf book) (a .point)) (a .value)
-        ∙ ap₂ (λ (n i : ℕ). cond (eqb n 0) (enteredAt o (stageOf book) (a .value)) (Progress.Refused n i)) (sym (refusal-stage o book a)) taken-stage
+        ∙ offer-stage o journal (otherAt o (stageOf journal) (a .point)) (a .value)
+        ∙ ap₂ (λ (n i : ℕ). cond (eqb n 0) (enteredAt o (stageOf journal) (a .value)) (Progress.Refused n i)) (sym (refusal-stage o journal a)) taken-stage
 
 -- a value in the next slot
 slots-set : (vs : List ℤ) (v : ℤ) → length vs < slots → slotsOf (vs ++ (v ∷ [])) ≡ set (slotsOf vs) (length vs) v
@@ -122,49 +122,49 @@ slots-set vs v h =
     ∙ sym (set-at vs (pos 0) (replicate m (pos 0)) v (length vs) refl)
     ∙ ap (λ (n : ℕ). set (vs ++ replicate n (pos 0)) (length vs) v) (sym e)
 
-search-more : (o : Opening) (book : List Answer) (a : Answer) → length book < slots → holding o (book ++ (a ∷ [])) ≡ withValue (holding o book) (a .value)
-search-more o book a h =
-    let n : length (values book) ≡ length book = length-map book valueOf in
-    let c : length (book ++ (a ∷ [])) ≡ length book + 1 = length-append book (a ∷ []) in
-    let s : slotsOf (values (book ++ (a ∷ []))) ≡ set (slotsOf (values book)) (length book) (a .value) =
-    ap slotsOf (map-more book a) ∙ slots-set (values book) (a .value) (omega arith) ∙ ap (λ (i : ℕ). set (slotsOf (values book)) i (a .value)) n in
+search-more : (o : Opening) (journal : List Answer) (a : Answer) → length journal < slots → holding o (journal ++ (a ∷ [])) ≡ withValue (holding o journal) (a .value)
+search-more o journal a h =
+    let n : length (values journal) ≡ length journal = length-map journal answerValue in
+    let c : length (journal ++ (a ∷ [])) ≡ length journal + 1 = length-append journal (a ∷ []) in
+    let s : slotsOf (values (journal ++ (a ∷ []))) ≡ set (slotsOf (values journal)) (length journal) (a .value) =
+    ap slotsOf (map-more journal a) ∙ slots-set (values journal) (a .value) (omega arith) ∙ ap (λ (i : ℕ). set (slotsOf (values journal)) i (a .value)) n in
     ap₂ (λ (i : ℕ) (l : List ℤ). record { opening = o; count = i; slots = l }) c s
 
 -- ---- one call
 
-module _ (o : Opening) (accepted : Accepted o) (book : List Answer) (kept : Kept o book) (a : Answer) where
-  pub kept-with : Kept o (bookWith o book a)
-  unfolding bookWith
-  kept-with = go (takes o book a) refl
+module _ (o : Opening) (accepted : Accepted o) (journal : List Answer) (kept : Kept o journal) (a : Answer) where
+  pub kept-with : Kept o (journalWith o journal a)
+  unfolding journalWith
+  kept-with = go (takes o journal a) refl
     where
-      go : (b : Bool) → takes o book a ≡ b → Kept o (cond b (book ++ (a ∷ [])) book)
-      go true e = kept-more o book a kept (fine o book a e)
+      go : (b : Bool) → takes o journal a ≡ b → Kept o (cond b (journal ++ (a ∷ [])) journal)
+      go true e = kept-more o journal a kept (fine o journal a e)
       go false e = kept
 
-  pub call-answers : enterOf (holding o book) (a .point) (a .value) ≡ record { report = toldOf o book a; search = holding o (bookWith o book a) }
-  unfolding toldOf bookWith reportAt
-  call-answers = go (takes o book a) refl (tried-held o accepted book kept a)
+  pub call-answers : enterOf (holding o journal) (a .point) (a .value) ≡ record { report = toldOf o journal a; search = holding o (journalWith o journal a) }
+  unfolding toldOf journalWith reportAt
+  call-answers = go (takes o journal a) refl (tried-held o accepted journal kept a)
     where
-      go : (b : Bool) → takes o book a ≡ b
-          → triedOf (holding o book) (a .point) (a .value) ≡ cond b (enteredAt o (stageOf book) (a .value)) (Progress.Refused (refusalOf o book a) (length book))
-          → enterOf (holding o book) (a .point) (a .value)
-          ≡ record { report = cond b (journalReport o (book ++ (a ∷ []))) (Report.Refused (refusalOf o book a) (length book)); search = holding o (cond b (book ++ (a ∷ [])) book) }
+      go : (b : Bool) → takes o journal a ≡ b
+          → triedOf (holding o journal) (a .point) (a .value) ≡ cond b (enteredAt o (stageOf journal) (a .value)) (Progress.Refused (refusalOf o journal a) (length journal))
+          → enterOf (holding o journal) (a .point) (a .value)
+          ≡ record { report = cond b (journalReport o (journal ++ (a ∷ []))) (Report.Refused (refusalOf o journal a) (length journal)); search = holding o (cond b (journal ++ (a ∷ [])) journal) }
       go true e t =
-          let f = fine o book a e in
-          let m = kept-more o book a kept f in
-          let u : stageOf (book ++ (a ∷ [])) ≡ triedOf (holding o book) (a .point) (a .value) = sym (t ∙ stage-more o book a kept f) in
+          let f = fine o journal a e in
+          let m = kept-more o journal a kept f in
+          let u : stageOf (journal ++ (a ∷ [])) ≡ triedOf (holding o journal) (a .point) (a .value) = sym (t ∙ stage-more o journal a kept f) in
           sym
-          (enter-accepted (holding o book) (a .point) (a .value) (stageOf (book ++ (a ∷ []))) (journalReport o (book ++ (a ∷ []))) u
-          (report-stage o accepted (book ++ (a ∷ [])) m)
-          (slots-full o accepted book kept)
-          (stage-fine (book ++ (a ∷ [])))
-          (holding o (book ++ (a ∷ [])))
-          (search-more o book a (omega (arith, book-fits o accepted (book ++ (a ∷ [])) m, length-append book (a ∷ [])))))
+          (enter-accepted (holding o journal) (a .point) (a .value) (stageOf (journal ++ (a ∷ []))) (journalReport o (journal ++ (a ∷ []))) u
+          (report-stage o accepted (journal ++ (a ∷ [])) m)
+          (slots-full o accepted journal kept)
+          (stage-fine (journal ++ (a ∷ [])))
+          (holding o (journal ++ (a ∷ [])))
+          (search-more o journal a (omega (arith, journal-fits o accepted (journal ++ (a ∷ [])) m, length-append journal (a ∷ [])))))
       go false e t =
           sym
-          (enter-refused (holding o book) (a .point) (a .value) (Progress.Refused (refusalOf o book a) (length book)) (Report.Refused (refusalOf o book a) (length book)) (sym t) refl refl)
+          (enter-refused (holding o journal) (a .point) (a .value) (Progress.Refused (refusalOf o journal a) (length journal)) (Report.Refused (refusalOf o journal a) (length journal)) (sym t) refl refl)
 
--- ---- a sheet of the book
+-- ---- a sheet of the journal
 
 -- an answer at the point called for is taken as its value alone is
 called-is : (o : Opening) (p : Progress) (a : Answer) → otherAt o p (a .point) ≡ false → offerOf o p (otherAt o p (a .point)) (a .value) ≡ takeOf o p (a .value)
@@ -174,7 +174,7 @@ called-is o p a e = ap (λ (b : Bool). offerOf o p b (a .value)) e
 same-point : (x : ℤ) (n : ℕ) → x ≡ pos n → not (eqZ x (pos n)) ≡ false
 same-point x n e = ap not (eq-eqZ x (pos n) e)
 
--- each answer of the book, tried as a sheet's answers are
+-- each answer of the journal, tried as a sheet's answers are
 one-answer : (o : Opening) (p : Progress) (a : Answer) (q : Progress) → otherAt o p (a .point) ≡ false → takeOf o p (a .value) ≡ q
     → offerOf o p (otherAt o p (a .point)) (a .value) ≡ q
 one-answer o p a q e f = called-is o p a e ∙ f
@@ -188,7 +188,7 @@ onward-answers o k (a ∷ rest) w =
     ap (λ (p : Progress). answersOf o p (points rest) (values rest)) (one-answer o (Progress.Bracketed k) a _ e (next-taken o k a (w .0)))
     ∙ onward-answers o (advanceOf k (sampleOf a)) rest (w .1)
 
-answers-kept : (o : Opening) (book : List Answer) → Kept o book → answersOf o Progress.Begun (points book) (values book) ≡ stageOf book
+answers-kept : (o : Opening) (journal : List Answer) → Kept o journal → answersOf o Progress.Begun (points journal) (values journal) ≡ stageOf journal
 unfolding answersOf
 answers-kept o [] k = refl
 answers-kept o (x ∷ []) k = one-answer o Progress.Begun x _ (same-point (x .point) (firstOf o) (k .called)) (first-taken o x k)
@@ -199,29 +199,29 @@ answers-kept o (x ∷ y ∷ rest) k =
     (one-answer o (Progress.First (x .value)) y _ (same-point (y .point) (secondOf o) (k .1 .called)) (second-taken o x y (k .0) (k .1) (k .2)))
     ∙ onward-answers o (startOf (sampleOf x) (sampleOf y)) rest (k .3)
 
-settled-stage : (e : Entries) (book : List Answer) → settledAs e (stageOf book) .report ≡ reportAt (e .opening) (stageOf book)
+settled-stage : (e : Entries) (journal : List Answer) → settledAs e (stageOf journal) .report ≡ reportAt (e .opening) (stageOf journal)
 settled-stage e [] = refl
 settled-stage e (x ∷ []) = refl
 settled-stage e (x ∷ y ∷ rest) = refl
 
-module _ (o : Opening) (accepted : Accepted o) (book : List Answer) (kept : Kept o book) where
+module _ (o : Opening) (accepted : Accepted o) (journal : List Answer) (kept : Kept o journal) where
   abbrev entered : Entries
-  entered = filled o (points book) (values book)
+  entered = filled o (points journal) (values journal)
 
-  leads-to : leadsTo entered ≡ stageOf book
+  leads-to : leadsTo entered ≡ stageOf journal
   leads-to =
-      let m : length (values book) ≡ length (points book) = length-map book valueOf ∙ sym (length-map book Answers.pointOf) in
-      ap₂ (answersOf o Progress.Begun) (take-at (points book) _ _ refl) (take-at (values book) _ _ m)
-      ∙ answers-kept o book kept
+      let m : length (values journal) ≡ length (points journal) = length-map journal answerValue ∙ sym (length-map journal Answers.answerPoint) in
+      ap₂ (answersOf o Progress.Begun) (take-at (points journal) _ _ refl) (take-at (values journal) _ _ m)
+      ∙ answers-kept o journal kept
 
-  pub report-sheet : (text : List ℕ) → entriesOf text ≡ entered → sheetOf text .report ≡ journalReport o book
+  pub report-sheet : (text : List ℕ) → entriesOf text ≡ entered → sheetOf text .report ≡ journalReport o journal
   report-sheet text e =
       ap (λ (r : Entered). r .report)
       (sym (sheet-read text entered (sym e) refl) ∙ sym (outcome-accepted entered (accepted .accepted)) ∙ ap (settledAs entered) leads-to)
-      ∙ settled-stage entered book
-      ∙ sym (report-stage o accepted book kept)
+      ∙ settled-stage entered journal
+      ∙ sym (report-stage o accepted journal kept)
 
--- ---- the numbers of a book are short enough to be spelled
+-- ---- the numbers of a journal are short enough to be spelled
 
 short-range : {low high : ℕ} {z : ℤ} → Ranged low high z → high ≤ 99999 → Short z
 short-range r h = omega (arith, r .most)
@@ -252,10 +252,10 @@ module _ (o : Opening) (op : Opened o) where
   short-at : (x : ℕ) (a : Answer) → x ≤ highest → At x a → Short (a .point) × Short (a .value)
   short-at x a h p = (short-point (a .point) x (p .called) h, omega (arith, p .ranged))
 
-  pub short-book : (book : List Answer) → Kept o book → ShortAnswers book
-  short-book [] k = tt
-  short-book (a ∷ []) k = let p = short-at (firstOf o) a (op .first .most) k in (p .0, p .1, tt)
-  short-book (a ∷ b ∷ rest) k =
+  pub short-journal : (journal : List Answer) → Kept o journal → ShortAnswers journal
+  short-journal [] k = tt
+  short-journal (a ∷ []) k = let p = short-at (firstOf o) a (op .first .most) k in (p .0, p .1, tt)
+  short-journal (a ∷ b ∷ rest) k =
       let p = short-at (firstOf o) a (op .first .most) (k .0) in
       let q = short-at (secondOf o) b (op .second .most) (k .1) in
       (p .0, p .1, (q .0, q .1, short-onward (startOf (sampleOf a) (sampleOf b)) rest (start-sound o op a b (k .0) (k .1) (k .2)) (k .3)))

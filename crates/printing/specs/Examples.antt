@@ -4,7 +4,7 @@ use mathlib.Core.Path.{_≡_, refl}
 use mathlib.Core.List.{[], _∷_}
 use lib.ListN.{length}
 use Rattle.rules.specs.declared.Report.{Report}
-use Rattle.printing.specs.Printed.{digitsWithin, digitsOf, fieldsOf, recordWith, recordOf, longest, placed, placedLength}
+use Rattle.printing.specs.Printed.{digitsWithin, digitsOf, fieldsOf, recordWith, recordOf, longestRecord, placed, placedLength}
 
 -- `0`
 zero-number : digitsOf 0 ≡ 48 ∷ []
@@ -42,7 +42,7 @@ unfolding recordOf recordWith fieldsOf digitsOf digitsWithin
 refuse = refl
 
 -- the bound is reached
-longest-record : length (recordOf (Report.Stop 4294967295 4294967295 4294967295 4294967295)) ≡ longest
+longest-record : length (recordOf (Report.Stop 4294967295 4294967295 4294967295 4294967295)) ≡ longestRecord
 unfolding recordOf recordWith fieldsOf digitsOf digitsWithin
 longest-record = refl
 

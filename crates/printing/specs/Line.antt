@@ -9,11 +9,11 @@ use native.Mathlib.Omega.{arith}
 use lib.ListN.{length, take, drop, getD, set, replicate, length-append, length-set, drop-of-length-le}
 use lib.Seq.{length-take-le, drop-cons, take-suc-set, append-snoc}
 use Rattle.printing.specs.declared.Line.{Line}
-use Rattle.printing.specs.Printed.{digitsOf, fieldsOf, longest}
+use Rattle.printing.specs.Printed.{digitsOf, fieldsOf, longestRecord}
 
 -- with nothing written
 abbrev pub blank : Line
-blank = record { bytes = replicate longest 0; len = 0 }
+blank = record { bytes = replicate longestRecord 0; len = 0 }
 
 -- with one byte more
 abbrev pub put : Line → ℕ → Line
@@ -50,18 +50,18 @@ written-size l (b ∷ bs) = written-size (put l b) bs ∙ length-set (l .bytes) 
 
 -- the line's bytes so far are the text
 pub record Holds (l : Line) (text : List ℕ) : Type 0 where
-  pub size : length (l .bytes) ≡ longest
+  pub size : length (l .bytes) ≡ longestRecord
   pub inside : l .len ≤ length (l .bytes)
   pub text-is : take (l .len) (l .bytes) ≡ text
 
-pub written-holds : (text : List ℕ) → length text ≤ longest → Holds (written blank text) text
+pub written-holds : (text : List ℕ) → length text ≤ longestRecord → Holds (written blank text) text
 written-holds text h = record {
   size = written-size blank text;
   inside = rw (written-len, written-size) (omega arith);
   text-is = written-text blank text (omega arith);
 }
 
-pub holds-short : {l : Line} {text : List ℕ} → Holds l text → length text ≤ longest
+pub holds-short : {l : Line} {text : List ℕ} → Holds l text → length text ≤ longestRecord
 holds-short {l} h = rw (← h .text-is, length-take-le (l .len) (l .bytes) (h .inside)) (omega arith)
 
 -- ---- a loop over a list whose elements are put one after the other
@@ -83,9 +83,9 @@ fieldwise = record { none = refl; one = λ x xs. refl }
 pub record SoFar (print : List ℕ → List ℕ) (l₀ : Line) (xs : List ℕ) (l : Line) (i : ℕ) : Type 0 where
   pub within : i ≤ length xs
   pub same : written l (print (drop i xs)) ≡ written l₀ (print xs)
-  pub room : l .len + length (print (drop i xs)) ≤ longest
+  pub room : l .len + length (print (drop i xs)) ≤ longestRecord
 
-pub none-yet : {print : List ℕ → List ℕ} {l : Line} (xs : List ℕ) → l .len + length (print xs) ≤ longest
+pub none-yet : {print : List ℕ → List ℕ} {l : Line} (xs : List ℕ) → l .len + length (print xs) ≤ longestRecord
     → SoFar print l xs l 0
 none-yet xs h = record { within = omega arith; same = refl; room = h }
 
@@ -95,7 +95,7 @@ module _ {print : List ℕ → List ℕ} {piece : ℕ → List ℕ} (p : Piecewi
   cut : i < length xs → print (drop i xs) ≡ piece (getD xs i 0) ++ print (drop (i + 1) xs)
   cut h = rw (add-one i, drop-cons xs i 0 h) (p .one (getD xs i 0) (drop (suc i) xs))
 
-  pub next-fits : i < length xs → l .len + length (piece (getD xs i 0)) ≤ longest
+  pub next-fits : i < length xs → l .len + length (piece (getD xs i 0)) ≤ longestRecord
   next-fits h = omega (arith, so-far .room, simp length-append at (ap length (cut h)))
 
   pub one-more : i < length xs → SoFar print l₀ xs (written l (piece (getD xs i 0))) (i + 1)

@@ -46,17 +46,17 @@ wordOf (Report.Stop lower upper better taken) = 115 ∷ 116 ∷ 111 ∷ 112 ∷ 
 wordOf (Report.Refused number place) = 114 ∷ 101 ∷ 102 ∷ 117 ∷ 115 ∷ 101 ∷ []
 
 -- then its numbers
-abbrev pub numbersOf : Report → List ℕ
-numbersOf (Report.Next point taken) = point ∷ taken ∷ []
-numbersOf (Report.Stop lower upper better taken) = lower ∷ upper ∷ better ∷ taken ∷ []
-numbersOf (Report.Refused number place) = number ∷ place ∷ []
+abbrev pub reportNumbers : Report → List ℕ
+reportNumbers (Report.Next point taken) = point ∷ taken ∷ []
+reportNumbers (Report.Stop lower upper better taken) = lower ∷ upper ∷ better ∷ taken ∷ []
+reportNumbers (Report.Refused number place) = number ∷ place ∷ []
 
 unfoldable pub recordOf : Report → List ℕ
-recordOf report = recordWith (wordOf report) (numbersOf report)
+recordOf report = recordWith (wordOf report) (reportNumbers report)
 
--- the length of the longest record of 32-bit numbers: `stop`, four commas, four numbers of ten digits, CR LF
-abbrev pub longest : ℕ
-longest = 50
+-- the length of the longestRecord record of 32-bit numbers: `stop`, four commas, four numbers of ten digits, CR LF
+abbrev pub longestRecord : ℕ
+longestRecord = 50
 
 -- ---- a text written into a buffer
 

@@ -1,5 +1,5 @@
 -- Laws of printed numbers and records: the digits of n are bytes from 48 to 57, read back as n, and begin with no 0 unless n is 0; no
--- record of 32-bit numbers is longer than the longest.
+-- record of 32-bit numbers is longer than the longestRecord.
 -- Assumes nothing.
 use Prim.Native.Nat.{ℕ, zero, suc, _+_, _-_, _*_, _/_, _%_, _^_, _≤_, _<_}
 use mathlib.Core.Path.{_≡_, refl, sym, _∙_}
@@ -13,7 +13,7 @@ use lib.ListN.{length, take, drop, getD, length-append, length-drop, List·getD-
 use lib.Seq.{take-append-seam}
 use borrow.Author.Tests.{lt-ltb, le-ltb, le-leb, leb-true}
 use Rattle.rules.specs.declared.Report.{Report}
-use Rattle.printing.specs.Printed.{digit, digitsWithin, digitsOf, fieldsOf, recordWith, wordOf, numbersOf, recordOf, longest, placed, placedLength}
+use Rattle.printing.specs.Printed.{digit, digitsWithin, digitsOf, fieldsOf, recordWith, wordOf, reportNumbers, recordOf, longestRecord, placed, placedLength}
 
 -- P holds of every element
 abbrev pub Each : (ℕ → Type 0) → List ℕ → Type 0
@@ -126,17 +126,17 @@ record-parts word numbers = rw (length-append, length-append)
 -- so that 0 is no record's length
 pub record-some : (report : Report) → 0 < length (recordOf report)
 unfolding recordOf
-record-some report = omega (arith, record-parts (wordOf report) (numbersOf report))
+record-some report = omega (arith, record-parts (wordOf report) (reportNumbers report))
 
 pub record-short : (word numbers : List ℕ) → Each (λ n. n < 2 ^ 32) numbers → length word + 11 * length numbers ≤ 48
-    → length (recordWith word numbers) ≤ longest
+    → length (recordWith word numbers) ≤ longestRecord
 record-short word numbers h k = omega (arith, record-parts word numbers, fields-length numbers h)
 
-pub record-length : (report : Report) → Each (λ n. n < 2 ^ 32) (numbersOf report) → length (recordOf report) ≤ longest
+pub record-length : (report : Report) → Each (λ n. n < 2 ^ 32) (reportNumbers report) → length (recordOf report) ≤ longestRecord
 unfolding recordOf
-record-length report h = record-short (wordOf report) (numbersOf report) h (short report)
+record-length report h = record-short (wordOf report) (reportNumbers report) h (short report)
   where
-    short : (r : Report) → length (wordOf r) + 11 * length (numbersOf r) ≤ 48
+    short : (r : Report) → length (wordOf r) + 11 * length (reportNumbers r) ≤ 48
     short (Report.Next p t) = omega arith
     short (Report.Stop l u b t) = omega arith
     short (Report.Refused n p) = omega arith

@@ -1,23 +1,72 @@
-// The report as one RFC 4180 record of document 01: the word next, stop or refuse, then its numbers, then CR LF.
+// A report as plain numbers, and as one RFC 4180 record of document 01: the word next, stop or refuse, then its numbers, then CR LF.
 ghost use mathlib.Core.Path.{_≡_};
 ghost use Prim.Native.Nat.{_+_, _≤_, _<_};
 ghost use lib.ListN.{length};
-ghost use Rattle.printing.specs.Printed.{longest, digitsOf, fieldsOf, recordWith, recordOf, placed, placedLength};
+ghost use Rattle.rules.specs.Rows.{rowOf};
+ghost use Rattle.printing.specs.Printed.{longestRecord, digitsOf, fieldsOf, recordWith, recordOf, placed, placedLength};
 ghost use Rattle.printing.specs.Line.{put, written, Holds};
 use rules::Report;
+use rules::Row;
 
-// The length of the longest record: `stop` and four numbers of ten digits.
-pub const LONGEST: usize = 50;
+// ---- plain numbers
+
+// A report as plain numbers.
+pub fn row_of(report: Report) -> Row
+    ensures { λ r. ⌜ r ≡ rowOf report ⌝ }
+{
+    let none = Row {
+        kind: 0,
+        point: 0,
+        lower: 0,
+        upper: 0,
+        better: 0,
+        taken: 0,
+        number: 0,
+        place: 0,
+    };
+    match report {
+        Report::Next { point, taken } => Row {
+            kind: 1,
+            point,
+            taken,
+            ..none
+        },
+        Report::Stop {
+            lower,
+            upper,
+            better,
+            taken,
+        } => Row {
+            kind: 2,
+            lower,
+            upper,
+            better,
+            taken,
+            ..none
+        },
+        Report::Refused { number, place } => Row {
+            kind: 3,
+            number,
+            place,
+            ..none
+        },
+    }
+}
+
+// ---- a record
+
+// The length of the longestRecord record: `stop` and four numbers of ten digits.
+pub const LONGEST_RECORD: usize = 50;
 
 // A line in the making: its first `len` bytes are written.
 struct Line {
-    bytes: [u8; LONGEST],
+    bytes: [u8; LONGEST_RECORD],
     len: usize,
 }
 
 // One byte more.
 fn put_byte(line: Line, byte: u8) -> Line
-    requires { ⌜ line .len < longest ⌝ }
+    requires { ⌜ line .len < longestRecord ⌝ }
     ensures { λ r. ⌜ r ≡ put line byte ⌝ }
 {
     let mut next = line;
@@ -29,7 +78,7 @@ fn put_byte(line: Line, byte: u8) -> Line
 
 // The bytes of a text, one after the other.
 fn put_text(line: Line, text: &[u8]) -> Line
-    requires { ⌜ line .len + length (now text) ≤ longest ⌝ }
+    requires { ⌜ line .len + length (now text) ≤ longestRecord ⌝ }
     ensures { λ r. ⌜ r ≡ written line (now (text .entry)) ⌝ }
 {
     let mut next = line;
@@ -43,7 +92,7 @@ fn put_text(line: Line, text: &[u8]) -> Line
 
 // The digits of a number: those of its tenth part, and the last.
 fn put_number(line: Line, n: u32) -> Line
-    requires { ⌜ line .len + length (digitsOf n) ≤ longest ⌝ }
+    requires { ⌜ line .len + length (digitsOf n) ≤ longestRecord ⌝ }
     ensures { λ r. ⌜ r ≡ written line (digitsOf n) ⌝ }
 {
     if n < 10 {
@@ -54,7 +103,7 @@ fn put_number(line: Line, n: u32) -> Line
 
 // A comma and the digits, for each number.
 fn put_fields(line: Line, numbers: &[u32]) -> Line
-    requires { ⌜ line .len + length (fieldsOf (now numbers)) ≤ longest ⌝ }
+    requires { ⌜ line .len + length (fieldsOf (now numbers)) ≤ longestRecord ⌝ }
     ensures { λ r. ⌜ r ≡ written line (fieldsOf (now (numbers .entry))) ⌝ }
 {
     let mut next = line;
@@ -68,11 +117,11 @@ fn put_fields(line: Line, numbers: &[u32]) -> Line
 
 // The record of a word and numbers, which is short enough.
 fn line_with(word: &[u8], numbers: &[u32]) -> Line
-    requires { ⌜ length (recordWith (now word) (now numbers)) ≤ longest ⌝ }
+    requires { ⌜ length (recordWith (now word) (now numbers)) ≤ longestRecord ⌝ }
     ensures { λ r. ⌜ Holds r (recordWith (now (word .entry)) (now (numbers .entry))) ⌝ }
 {
     let blank = Line {
-        bytes: [0; LONGEST],
+        bytes: [0; LONGEST_RECORD],
         len: 0,
     };
     let line = put_fields(put_text(blank, word), numbers);
@@ -112,11 +161,11 @@ fn place_text(text: &[u8], out: &mut [u8]) -> usize
 }
 
 // Writes the record of a report at the beginning of `out`, whose further bytes keep their contents, and answers its length. Where
-// `out` is too short nothing is written, and the answer is 0. A buffer of LONGEST bytes is long enough for every report.
+// `out` is too short nothing is written, and the answer is 0. A buffer of LONGEST_RECORD bytes is long enough for every report.
 pub fn write_report(report: Report, out: &mut [u8]) -> usize
     ensures { λ r. ⌜ r ≡ placedLength (recordOf report) (now (out .entry)) ⌝ }
     ensures { λ _. ⌜ now (out .exit) ≡ placed (recordOf report) (now (out .entry)) ⌝ }
-    ensures { λ _. ⌜ length (recordOf report) ≤ longest ⌝ }
+    ensures { λ _. ⌜ length (recordOf report) ≤ longestRecord ⌝ }
 {
     let line = line_of(report);
     let len = line.len;

@@ -22,7 +22,7 @@ use Rattle.held.specs.Held.{freshOf, openOf, enterOf}
 use Rattle.journal.specs.Answers.{Answer}
 use Rattle.journal.specs.Journal.{toldAll}
 use Rattle.journal.specs.RunLaws.{holding}
-use Rattle.journal.specs.Run.{Call, byValue, into, offered, callOf, answersOf, searchAfter, bookOf, run}
+use Rattle.journal.specs.Run.{Call, byValue, into, offered, callOf, reportsOf, searchAfter, journalOf, run}
 use Rattle.replay.specs.Replay.{callWith, callsUpTo, callsIn, codeOf, codes, writtenOver}
 
 -- ---- the calls one by one
@@ -83,10 +83,10 @@ sets-append (u ∷ us) vs l at =
     let e : at + length (u ∷ us) ≡ suc at + length us = omega arith in
     rw e (sets-append us vs (set l at u) (suc at))
 
-answers-length : (s : Search) (calls : List Call) → length (answersOf s calls) ≡ length calls
-unfolding answersOf
-answers-length s [] = refl
-answers-length s (c ∷ calls) = ap suc (answers-length (callOf s c .search) calls)
+reports-length : (s : Search) (calls : List Call) → length (reportsOf s calls) ≡ length calls
+unfolding reportsOf
+reports-length s [] = refl
+reports-length s (c ∷ calls) = ap suc (reports-length (callOf s c .search) calls)
 
 -- ---- the run so far
 
@@ -98,17 +98,17 @@ abbrev leftOf : ℕ → List ℕ → List ℤ → List ℤ → ℕ → List Call
 leftOf n ks xs vs i = callsUpTo (n - i) (drop i ks) (drop i xs) (drop i vs)
 
 -- i calls have led to the search s and the buffer out: what all of them leave and write is what the others do from here
-pub record Led (s₀ : Search) (ks : List ℕ) (xs vs : List ℤ) (before : List ℕ) (i : ℕ) (s : Search) (out : List ℕ) : Type 0 where
+pub record Made (s₀ : Search) (ks : List ℕ) (xs vs : List ℤ) (before : List ℕ) (i : ℕ) (s : Search) (out : List ℕ) : Type 0 where
   pub same : length out ≡ length before
   pub onward : searchAfter s₀ (callsIn ks xs vs before) ≡ searchAfter s (leftOf (length before / 5) ks xs vs i)
-  pub written : sets before 0 (codes (answersOf s₀ (callsIn ks xs vs before))) ≡ sets out (5 * i) (codes (answersOf s (leftOf (length before / 5) ks xs vs i)))
+  pub written : sets before 0 (codes (reportsOf s₀ (callsIn ks xs vs before))) ≡ sets out (5 * i) (codes (reportsOf s (leftOf (length before / 5) ks xs vs i)))
 
 module _ (s₀ : Search) (ks : List ℕ) (xs vs : List ℤ) (before : List ℕ) where
   abbrev n : ℕ
   n = length before / 5
 
-  pub led-begin : Led s₀ ks xs vs before 0 s₀ before
-  led-begin = record { same = refl; onward = rw (sub-zero n); written = rw (sub-zero n) }
+  pub made-begin : Made s₀ ks xs vs before 0 s₀ before
+  made-begin = record { same = refl; onward = rw (sub-zero n); written = rw (sub-zero n) }
 
   left-more : (i : ℕ) → i < n → i < length ks → i < length xs → i < length vs
       → leftOf n ks xs vs i ≡ callWith (getD ks i 0) (record { point = getD xs i (pos 0); value = getD vs i (pos 0) }) ∷ leftOf n ks xs vs (i + 1)
@@ -123,11 +123,11 @@ module _ (s₀ : Search) (ks : List ℕ) (xs vs : List ℤ) (before : List ℕ) 
       (rw (length-drop i ks, length-drop i xs, length-drop i vs, sub-min n (length ks) i, sub-min (length xs) (length vs) i, sub-min (min n (length ks)) (min (length xs) (length vs)) i)
       (sub-eq-zero-of-le h))
 
-  module _ (i : ℕ) (s : Search) (out : List ℕ) (l : Led s₀ ks xs vs before i s out) where
-    pub led-more : i < shortest n ks xs vs → (r : Entered) → r ≡ enterOf s (getD xs i (pos 0)) (getD vs i (pos 0))
-        → Led s₀ ks xs vs before (i + 1) (r .search) (sets out (5 * i) (codeOf (r .report)))
-    unfolding searchAfter answersOf codes
-    led-more h r e =
+  module _ (i : ℕ) (s : Search) (out : List ℕ) (l : Made s₀ ks xs vs before i s out) where
+    pub made-more : i < shortest n ks xs vs → (r : Entered) → r ≡ enterOf s (getD xs i (pos 0)) (getD vs i (pos 0))
+        → Made s₀ ks xs vs before (i + 1) (r .search) (sets out (5 * i) (codeOf (r .report)))
+    unfolding searchAfter reportsOf codes
+    made-more h r e =
         let a : Answer = record { point = getD xs i (pos 0); value = getD vs i (pos 0) } in
         let left = leftOf n ks xs vs (i + 1) in
         let c = left-more i (omega arith) (omega arith) (omega arith) (omega arith) in
@@ -138,22 +138,22 @@ module _ (s₀ : Search) (ks : List ℕ) (xs vs : List ℤ) (before : List ℕ) 
           onward = l .onward ∙ ap (searchAfter s) c ∙ ap (λ (y : Entered). searchAfter (y .search) left) d;
           written =
               l .written
-              ∙ ap (λ (calls : List Call). sets out (5 * i) (codes (answersOf s calls))) c
-              ∙ ap (λ (y : Entered). sets out (5 * i) (codeOf (y .report) ++ codes (answersOf (y .search) left))) d
-              ∙ sets-append (codeOf (r .report)) (codes (answersOf (r .search) left)) out (5 * i)
-              ∙ ap (λ (at : ℕ). sets (sets out (5 * i) (codeOf (r .report))) at (codes (answersOf (r .search) left))) five;
+              ∙ ap (λ (calls : List Call). sets out (5 * i) (codes (reportsOf s calls))) c
+              ∙ ap (λ (y : Entered). sets out (5 * i) (codeOf (y .report) ++ codes (reportsOf (y .search) left))) d
+              ∙ sets-append (codeOf (r .report)) (codes (reportsOf (r .search) left)) out (5 * i)
+              ∙ ap (λ (at : ℕ). sets (sets out (5 * i) (codeOf (r .report))) at (codes (reportsOf (r .search) left))) five;
         }
 
-    pub led-end : shortest n ks xs vs ≤ i
-        → (s ≡ searchAfter s₀ (callsIn ks xs vs before)) × (out ≡ writtenOver (answersOf s₀ (callsIn ks xs vs before)) before)
-    unfolding searchAfter answersOf codes
-    led-end h =
+    pub made-end : shortest n ks xs vs ≤ i
+        → (s ≡ searchAfter s₀ (callsIn ks xs vs before)) × (out ≡ writtenOver (reportsOf s₀ (callsIn ks xs vs before)) before)
+    unfolding searchAfter reportsOf codes
+    made-end h =
         let calls = callsIn ks xs vs before in
-        let rs = answersOf s₀ calls in
+        let rs = reportsOf s₀ calls in
         let none = none-left i h in
-        let fit : 0 + length (codes rs) ≤ length before = omega (arith, codes-length rs, answers-length s₀ calls, calls-few n ks xs vs) in (
+        let fit : 0 + length (codes rs) ≤ length before = omega (arith, codes-length rs, reports-length s₀ calls, calls-few n ks xs vs) in (
           sym (l .onward ∙ ap (searchAfter s) none),
-          sym (l .written ∙ ap (λ (cs : List Call). sets out (5 * i) (codes (answersOf s cs))) none)
+          sym (l .written ∙ ap (λ (cs : List Call). sets out (5 * i) (codes (reportsOf s cs))) none)
               ∙ sets-eq (codes rs) before 0 fit
               ∙ ap (λ (k : ℕ). codes rs ++ drop k before) (zero-add (length (codes rs)) ∙ codes-length rs),
         )
@@ -164,10 +164,10 @@ fresh-opened : (o : Opening) → Accepted o → openOf o .search ≡ freshOf o
 unfolding openOf
 fresh-opened o a = simp (eq-eqb (openingRefusal o) 0 (a .accepted))
 
--- for an accepted opening the answers are the book's, and the search holds the book's values
+-- for an accepted opening the reports are the journal's, and the search holds the journal's values
 module _ (o : Opening) (accepted : Accepted o) (calls : List Call) where
-  pub answers-told : answersOf (openOf o .search) calls ≡ toldAll o [] (map offered calls)
-  answers-told = ap (λ (s : Search). answersOf s calls) (fresh-opened o accepted) ∙ run o accepted calls .answers
+  pub reports-told : reportsOf (openOf o .search) calls ≡ toldAll o [] (map offered calls)
+  reports-told = ap (λ (s : Search). reportsOf s calls) (fresh-opened o accepted) ∙ run o accepted calls .reports
 
-  pub search-held : searchAfter (openOf o .search) calls ≡ holding o (bookOf o calls)
+  pub search-held : searchAfter (openOf o .search) calls ≡ holding o (journalOf o calls)
   search-held = ap (λ (s : Search). searchAfter s calls) (fresh-opened o accepted) ∙ run o accepted calls .search

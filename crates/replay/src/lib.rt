@@ -8,7 +8,7 @@ ghost use Rattle.rules.specs.Refusals.{Accepted};
 ghost use Rattle.held.specs.Held.{openOf, enterOf};
 ghost use Rattle.journal.specs.Journal.{toldAll};
 ghost use Rattle.journal.specs.RunLaws.{holding};
-ghost use Rattle.journal.specs.Run.{offered, answersOf, searchAfter, bookOf};
+ghost use Rattle.journal.specs.Run.{offered, reportsOf, searchAfter, journalOf};
 ghost use Rattle.replay.specs.Replay.{callsIn, codeOf, writtenOver};
 use held::Entered;
 use held::Search;
@@ -27,31 +27,31 @@ fn call(kind: u8, search: Search, point: i32, value: i32) -> Entered
 }
 
 // Five numbers, from a place on.
-fn put_five(answers: &mut [u32], at: usize, a: u32, b: u32, c: u32, d: u32, e: u32)
-    requires { ⌜ at + 5 ≤ length (now answers) ⌝ }
-    ensures { λ _. ⌜ now (answers .exit) ≡ sets (now (answers .entry)) at (a ∷ b ∷ c ∷ d ∷ e ∷ []) ⌝ }
+fn put_five(reports: &mut [u32], at: usize, a: u32, b: u32, c: u32, d: u32, e: u32)
+    requires { ⌜ at + 5 ≤ length (now reports) ⌝ }
+    ensures { λ _. ⌜ now (reports .exit) ≡ sets (now (reports .entry)) at (a ∷ b ∷ c ∷ d ∷ e ∷ []) ⌝ }
 {
-    answers[at] = a;
-    answers[at + 1] = b;
-    answers[at + 2] = c;
-    answers[at + 3] = d;
-    answers[at + 4] = e;
+    reports[at] = a;
+    reports[at + 1] = b;
+    reports[at + 2] = c;
+    reports[at + 3] = d;
+    reports[at + 4] = e;
 }
 
 // The five numbers of a report, from a place on.
-fn put_report(answers: &mut [u32], at: usize, report: Report)
-    requires { ⌜ at + 5 ≤ length (now answers) ⌝ }
-    ensures { λ _. ⌜ now (answers .exit) ≡ sets (now (answers .entry)) at (codeOf report) ⌝ }
+fn put_report(reports: &mut [u32], at: usize, report: Report)
+    requires { ⌜ at + 5 ≤ length (now reports) ⌝ }
+    ensures { λ _. ⌜ now (reports .exit) ≡ sets (now (reports .entry)) at (codeOf report) ⌝ }
 {
     match report {
-        Report::Next { point, taken } => put_five(answers, at, 1, point, taken, 0, 0),
+        Report::Next { point, taken } => put_five(reports, at, 1, point, taken, 0, 0),
         Report::Stop {
             lower,
             upper,
             better,
             taken,
-        } => put_five(answers, at, 2, lower, upper, better, taken),
-        Report::Refused { number, place } => put_five(answers, at, 3, number, place, 0, 0),
+        } => put_five(reports, at, 2, lower, upper, better, taken),
+        Report::Refused { number, place } => put_five(reports, at, 3, number, place, 0, 0),
     }
 }
 
@@ -64,7 +64,7 @@ fn lesser(a: usize, b: usize) -> usize
 
 // A fresh search of the opening, and then as many calls as the shortest of kinds, points and values allows, each to the search that
 // the one before returned or left: kind 0 by value, any other into the search. The five numbers of each report are written to
-// `answers` in turn. A short `answers` ends the run early, before the first call whose report has no room; its further numbers keep
+// `reports` in turn. A short `reports` ends the run early, before the first call whose report has no room; its further numbers keep
 // their contents.
 // For an accepted opening the reports and the search are the trial book's. A refused one makes no fresh search: the calls are made to
 // the blank, which refuses each.
@@ -73,15 +73,15 @@ pub fn replay(
     kinds: &[u8],
     points: &[i32],
     values: &[i32],
-    answers: &mut [u32],
+    reports: &mut [u32],
 ) -> Search
-    ensures { λ r. ⌜ r ≡ searchAfter (openOf opening .search) (callsIn (now (kinds .entry)) (now (points .entry)) (now (values .entry)) (now (answers .entry))) ⌝ }
-    ensures { λ _. ⌜ now (answers .exit) ≡ writtenOver (answersOf (openOf opening .search) (callsIn (now (kinds .entry)) (now (points .entry)) (now (values .entry)) (now (answers .entry)))) (now (answers .entry)) ⌝ }
-    ensures { λ r. ⌜ (Accepted opening → r ≡ holding opening (bookOf opening (callsIn (now (kinds .entry)) (now (points .entry)) (now (values .entry)) (now (answers .entry))))) ⌝ }
-    ensures { λ _. ⌜ (Accepted opening → now (answers .exit) ≡ writtenOver (toldAll opening [] (map offered (callsIn (now (kinds .entry)) (now (points .entry)) (now (values .entry)) (now (answers .entry))))) (now (answers .entry))) ⌝ }
+    ensures { λ r. ⌜ r ≡ searchAfter (openOf opening .search) (callsIn (now (kinds .entry)) (now (points .entry)) (now (values .entry)) (now (reports .entry))) ⌝ }
+    ensures { λ _. ⌜ now (reports .exit) ≡ writtenOver (reportsOf (openOf opening .search) (callsIn (now (kinds .entry)) (now (points .entry)) (now (values .entry)) (now (reports .entry)))) (now (reports .entry)) ⌝ }
+    ensures { λ r. ⌜ (Accepted opening → r ≡ holding opening (journalOf opening (callsIn (now (kinds .entry)) (now (points .entry)) (now (values .entry)) (now (reports .entry))))) ⌝ }
+    ensures { λ _. ⌜ (Accepted opening → now (reports .exit) ≡ writtenOver (toldAll opening [] (map offered (callsIn (now (kinds .entry)) (now (points .entry)) (now (values .entry)) (now (reports .entry))))) (now (reports .entry))) ⌝ }
 {
     let n = lesser(
-        lesser(answers.len() / 5, kinds.len()),
+        lesser(reports.len() / 5, kinds.len()),
         lesser(points.len(), values.len()),
     );
     let mut last = Search::fresh(opening);
@@ -90,7 +90,7 @@ pub fn replay(
         let search = last.search;
         let next = call(kinds[i], search, points[i], values[i]);
         let report = next.report;
-        put_report(answers, 5 * i, report);
+        put_report(reports, 5 * i, report);
         last = next;
         i += 1;
     }

@@ -7,3 +7,4 @@ pub mod BoundLaws
 pub mod SearchLaws
 pub mod Trials
 mod Examples
+pub mod Rows

@@ -55,9 +55,9 @@ pub record Check : Type 0 where
 abbrev pub check : Bool → ℕ → Check
 check b n = record { applies = b; number = n }
 
-abbrev pub firstOf : List Check → ℕ
-firstOf [] = 0
-firstOf (c ∷ cs) = cond (c .applies) (c .number) (firstOf cs)
+abbrev pub firstApplying : List Check → ℕ
+firstApplying [] = 0
+firstApplying (c ∷ cs) = cond (c .applies) (c .number) (firstApplying cs)
 
 -- ---- the causes
 
@@ -78,7 +78,7 @@ sameSide v w = (ltZ (pos 0) v && ltZ (pos 0) w) || (ltZ v (pos 0) && ltZ w (pos 
 -- Opening
 unfoldable pub openingRefusal : Opening → ℕ
 openingRefusal o =
-    firstOf
+    firstApplying
     (check (outside 0 2 (o .method)) unknownMethod
     ∷ check (outside 0 highest (o .first) || outside 0 highest (o .second)) endOutOfRange
     ∷ check (eqZ (o .first) (o .second)) endsEqual
@@ -89,7 +89,7 @@ openingRefusal o =
 -- whether the value is out of range, and whether it is a second answer on the first one's side
 unfoldable pub answerRefusal : (stopped other large same : Bool) → ℕ
 answerRefusal stopped other large same =
-    firstOf
+    firstApplying
     (check stopped hadStopped
     ∷ check other notCalledFor
     ∷ check large valueOutOfRange

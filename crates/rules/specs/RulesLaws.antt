@@ -107,7 +107,7 @@ module _ (o : Opening) (k : Bracket) (tol : 1 ≤ toleranceAt o (k .better .poin
 -- ---- Rule 6: the partner is an end of the old bracket, and not on x's side
 
 -- what rule 6 keeps of a bracket: two ends, the last point one of them, not both above or both below target
-pub record Held (k : Bracket) : Type 0 where
+pub record Straddles (k : Bracket) : Type 0 where
   pub apart : k .better .point ≡ k .other .point → ⊥
   pub ends : (k .last ≡ k .better) ⊎ (k .last ≡ k .other)
   pub opposite : opposed (k .better .value) (k .other .value) ≡ true
@@ -124,7 +124,7 @@ pub record Partner (k : Bracket) (x p : Sample) : Type 0 where
   pub end : (p ≡ k .better) ⊎ (p ≡ k .other)
   pub opposite : opposed (x .value) (p .value) ≡ true
 
-module _ (k : Bracket) (x : Sample) (held : Held k) where
+module _ (k : Bracket) (x : Sample) (held : Straddles k) where
   pub partner-is : Partner k x (partnerOf k x)
   unfolding partnerOf
   partner-is = go (opposed (x .value) (k .last .value)) refl (held .ends)
@@ -153,7 +153,7 @@ pub record Inside (k k' : Bracket) : Type 0 where
   pub upper : upperOf k' ≤ upperOf k
 
 pub record Advance (k : Bracket) (D : ℕ) (k' : Bracket) : Type 0 where
-  pub held : Held k'
+  pub held : Straddles k'
   pub closest : natAbs (k' .better .value) ≤ natAbs (k' .other .value)
   pub inside : Inside k k'
   pub narrower : widthOf k' < widthOf k
@@ -187,7 +187,7 @@ module _ (k : Bracket) (D x : ℕ) (ahead : Ahead k D x) where
         rest = λ h. rw e (omega (arith, ahead .far));
       }
 
-module _ (k : Bracket) (x : Sample) (D : ℕ) (held : Held k) (ahead : Ahead k D (x .point)) where
+module _ (k : Bracket) (x : Sample) (D : ℕ) (held : Straddles k) (ahead : Ahead k D (x .point)) where
   pub advance-is : Advance k D (advanceOf k x)
   unfolding advanceOf renewedOf
   advance-is = go (closer x (partnerOf k x)) refl
@@ -228,7 +228,7 @@ advance-taken k x = go (closer x (partnerOf k x))
 -- ---- Rule 1: the first bracket
 
 pub record Start (x0 x1 : Sample) (k : Bracket) : Type 0 where
-  pub held : Held k
+  pub held : Straddles k
   pub closest : natAbs (k .better .value) ≤ natAbs (k .other .value)
   pub wide : widthOf k ≡ gapOf (x0 .point) (x1 .point)
   pub lower : lowerOf k ≡ min (x0 .point) (x1 .point)

@@ -22,7 +22,7 @@ use Rattle.rules.specs.declared.Bracket.{Bracket}
 use Rattle.rules.specs.declared.Progress.{Progress}
 use Rattle.rules.specs.declared.Report.{Report}
 use Rattle.rules.specs.Rules.{highest, largestTolerance, largestValue, slots, methodOf, firstOf, secondOf, toleranceAt, closer, pairOf, startOf, lowerOf, upperOf, widthOf, stoppedOf, partnerOf, thirdOf, streakOf, renewedOf, advanceOf, allowed, reachOf, offsetOf, nextOf}
-use Rattle.rules.specs.RulesLaws.{Ahead, next-ahead, offset-in, going-wide, Held, partner-is, Inside, Advance, advance-is, advance-taken, start-is, start-counts, Halves, bisection-halves, forced}
+use Rattle.rules.specs.RulesLaws.{Ahead, next-ahead, offset-in, going-wide, Straddles, partner-is, Inside, Advance, advance-is, advance-taken, start-is, start-counts, Halves, bisection-halves, forced}
 use Rattle.rules.specs.Refusals.{openingRefusal, answerRefusal, tooLarge, sameSide, Accepted}
 use Rattle.rules.specs.RefusalsLaws.{Opened, opened, Passed, answer-passed, crossing-opposed, opposed-crossing}
 use Rattle.rules.specs.Search.{isRefused, beginOf, stoppedAt, sameSideAt, takenOf, enteredAt, answeredAt, offerOf, takeOf, progressOf, answersOf, bracketReport, reportAt, isRefusal, distanceOf, tOf, mostOf}
@@ -41,7 +41,7 @@ pub record Limits (k : Bracket) : Type 0 where
   pub third : Limited (k .third)
 
 pub record Sound (o : Opening) (k : Bracket) : Type 0 where
-  pub held : Held k
+  pub held : Straddles k
   pub closest : natAbs (k .better .value) ≤ natAbs (k .other .value)
   pub limits : Limits k
   pub counted : k .streak + 2 ≤ k .taken
@@ -72,7 +72,7 @@ end-limited : (k : Bracket) {p : Sample} → Limits k → (p ≡ k .better) ⊎ 
 end-limited k l (inl e) = subst Limited (sym e) (l .better)
 end-limited k l (inr e) = subst Limited (sym e) (l .other)
 
-limits-advance : (k : Bracket) (x : Sample) → Held k → Limits k → Limited x → Limits (advanceOf k x)
+limits-advance : (k : Bracket) (x : Sample) → Straddles k → Limits k → Limited x → Limits (advanceOf k x)
 unfolding advanceOf renewedOf
 limits-advance k x h l m = go (closer x (partnerOf k x)) (end-limited k l (partner-is k x h .end))
   where

@@ -7,7 +7,7 @@ pub const LARGEST_TOLERANCE: u32 = 5000;
 
 pub const LARGEST_VALUE: u32 = 10000;
 
-pub const SLOTS: u32 = 72;
+pub const SLOTS: usize = 72;
 
 // An opening: the method, the first end x0, the second end x1 and the tolerance. A sheet may hold any of them out of range.
 #[repr(C)]
@@ -80,6 +80,19 @@ pub enum Report {
         number: u32,
         place: u32,
     },
+}
+
+// A report as plain numbers, where no enum can stand: `kind` says which of the three it is, and a number that its kind has not is 0.
+#[repr(C)]
+pub struct Row {
+    pub kind: u32,
+    pub point: u32,
+    pub lower: u32,
+    pub upper: u32,
+    pub better: u32,
+    pub taken: u32,
+    pub number: u32,
+    pub place: u32,
 }
 
 // What is told of an opening before the first trial: t and the most answers that may be needed, or a refusal.

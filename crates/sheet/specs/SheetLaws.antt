@@ -23,7 +23,7 @@ use Rattle.forms.specs.declared.Entries.{Entries}
 use Rattle.forms.specs.declared.AnswerRecord.{AnswerRecord}
 use Rattle.forms.specs.declared.OpeningRecord.{OpeningRecord}
 use Rattle.forms.specs.Text.{recordsOf}
-use Rattle.forms.specs.Entries.{longest, openingPlace, answerPlace, answerOf, openingOf, opened, entered, refused, answersFrom, recordsRead, entriesOf}
+use Rattle.forms.specs.Entries.{longestText, openingPlace, answerPlace, answerOf, openingOf, opened, entered, refused, answersFrom, recordsRead, entriesOf}
 use Rattle.sheet.specs.Sheet.{leadsTo, refusedAt, keptOf, settledAs, outcomeOf, sheetOf}
 
 -- ---- where the answers lead
@@ -54,7 +54,7 @@ answers-few e (r ∷ rs) h = go (eqb (e .count) slots) refl (answerOf r) (λ x v
 
 pub entries-few : (text : List ℕ) → entriesOf text .count ≤ slots
 unfolding entriesOf recordsRead refused opened
-entries-few text = go (ltb longest (length text)) (recordsOf text)
+entries-few text = go (ltb longestText (length text)) (recordsOf text)
   where
     read : (o : OpeningRecord) (rs : List (List ℕ)) → (elim o as (λ x. Entries) [ OpeningRecord.Opened a ↦ answersFrom (opened a) rs | OpeningRecord.Malformed ↦ refused 12 1 ]) .count ≤ slots
     read (OpeningRecord.Opened a) rs = answers-few (opened a) rs (omega arith)

@@ -30,7 +30,7 @@ fn refuse(number: u32, place: u32) -> Entered
                 tolerance: 0,
             },
             count: 0,
-            slots: [0; 72],
+            slots: [0; rules::SLOTS],
         },
     }
 }

@@ -203,7 +203,7 @@ fn junk(count: u32) -> Search {
     Search {
         opening: opening(1, 0, 100, 1),
         count,
-        slots: [5; 72],
+        slots: [5; Search::SLOTS],
     }
 }
 

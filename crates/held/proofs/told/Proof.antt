@@ -19,7 +19,7 @@ returns c = let s = c .before .args in simp (lt-ltb _ _ (c .if1 .taken), answers
 slice-aggregate-follow : tie.Need-slice-aggregate-follow
 slice-aggregate-follow c =
     let s = c .before .before in
-    sym (length-take-le (s .args .count) (s .args .slots .now) (omega (arith, s .pre .0, c .before .if1 .left)))
+    sym (length-take-le (s .args .count) (s .args .held .now) (omega (arith, s .pre .0, c .before .if1 .left)))
 
 follow-requires : tie.Need-follow-requires
 follow-requires c κs = search needs

@@ -7,47 +7,47 @@ use Rattle.replay.specs.ReplayLaws.{five-stored}
 use Rattle.replay.proofs.put_five.Statement.{statement}
 use Rattle.replay.proofs.put_five.Tie as tie
 
-mul-answers : tie.Need-mul-answers
-mul-answers c = search needs
+mul-reports : tie.Need-mul-reports
+mul-reports c = search needs
 
-slice-write-answers : tie.Need-slice-write-answers
-slice-write-answers c = search needs
+slice-write-reports : tie.Need-slice-write-reports
+slice-write-reports c = search needs
 
-add-answers : tie.Need-add-answers
-add-answers c = search needs
+add-reports : tie.Need-add-reports
+add-reports c = search needs
 
-mul-answers-2 : tie.Need-mul-answers-2
-mul-answers-2 c = search needs
+mul-reports-2 : tie.Need-mul-reports-2
+mul-reports-2 c = search needs
 
-slice-write-answers-2 : tie.Need-slice-write-answers-2
-slice-write-answers-2 c = simp length-set (omega arith)
+slice-write-reports-2 : tie.Need-slice-write-reports-2
+slice-write-reports-2 c = simp length-set (omega arith)
 
-add-answers-2 : tie.Need-add-answers-2
-add-answers-2 c = search needs
+add-reports-2 : tie.Need-add-reports-2
+add-reports-2 c = search needs
 
-mul-answers-3 : tie.Need-mul-answers-3
-mul-answers-3 c = search needs
+mul-reports-3 : tie.Need-mul-reports-3
+mul-reports-3 c = search needs
 
-slice-write-answers-3 : tie.Need-slice-write-answers-3
-slice-write-answers-3 c = simp length-set (omega arith)
+slice-write-reports-3 : tie.Need-slice-write-reports-3
+slice-write-reports-3 c = simp length-set (omega arith)
 
-add-answers-3 : tie.Need-add-answers-3
-add-answers-3 c = search needs
+add-reports-3 : tie.Need-add-reports-3
+add-reports-3 c = search needs
 
-mul-answers-4 : tie.Need-mul-answers-4
-mul-answers-4 c = search needs
+mul-reports-4 : tie.Need-mul-reports-4
+mul-reports-4 c = search needs
 
-slice-write-answers-4 : tie.Need-slice-write-answers-4
-slice-write-answers-4 c = simp length-set (omega arith)
+slice-write-reports-4 : tie.Need-slice-write-reports-4
+slice-write-reports-4 c = simp length-set (omega arith)
 
-add-answers-4 : tie.Need-add-answers-4
-add-answers-4 c = search needs
+add-reports-4 : tie.Need-add-reports-4
+add-reports-4 c = search needs
 
-mul-answers-5 : tie.Need-mul-answers-5
-mul-answers-5 c = search needs
+mul-reports-5 : tie.Need-mul-reports-5
+mul-reports-5 c = search needs
 
-slice-write-answers-5 : tie.Need-slice-write-answers-5
-slice-write-answers-5 c = simp length-set (omega arith)
+slice-write-reports-5 : tie.Need-slice-write-reports-5
+slice-write-reports-5 c = simp length-set (omega arith)
 
 same-length : tie.Need-same-length
 same-length c = simp length-set
@@ -55,25 +55,25 @@ same-length c = simp length-set
 returns : tie.Need-returns
 returns c =
     let x = c .args in
-    five-stored (x .answers .now) (x .at) (x .a) (x .b) (x .c) (x .d) (x .e)
+    five-stored (x .reports .now) (x .at) (x .a) (x .b) (x .c) (x .d) (x .e)
 
 pub put-five-spec : {M : Type 1} → statement M
 put-five-spec =
     tie.close
     (tie.spec
-    mul-answers
-    slice-write-answers
-    add-answers
-    mul-answers-2
-    slice-write-answers-2
-    add-answers-2
-    mul-answers-3
-    slice-write-answers-3
-    add-answers-3
-    mul-answers-4
-    slice-write-answers-4
-    add-answers-4
-    mul-answers-5
-    slice-write-answers-5
+    mul-reports
+    slice-write-reports
+    add-reports
+    mul-reports-2
+    slice-write-reports-2
+    add-reports-2
+    mul-reports-3
+    slice-write-reports-3
+    add-reports-3
+    mul-reports-4
+    slice-write-reports-4
+    add-reports-4
+    mul-reports-5
+    slice-write-reports-5
     same-length
     returns)

@@ -14,23 +14,23 @@ use Rattle.integers.specs.Bounds.{read}
 use Rattle.rules.specs.declared.Report.{Report}
 use Rattle.held.specs.Held.{enterOf}
 use Rattle.replay.specs.Replay.{callsIn, writtenOver}
-use Rattle.replay.specs.ReplayLaws.{shortest, Led, led-begin, led-more, led-end, answers-told, search-held}
+use Rattle.replay.specs.ReplayLaws.{shortest, Made, made-begin, made-more, made-end, reports-told, search-held}
 use Rattle.replay.proofs.replay.Statement.{statement}
 use Rattle.replay.proofs.replay.Tie as tie
 
 abbrev Inv-loop : tie.InvT-loop
-Inv-loop kinds points values answers₀ n last₀ i₀ answers last i = (i ≤ n) × Led (last₀ .search) kinds points values answers₀ i (last .search) answers
+Inv-loop kinds points values reports₀ n last₀ i₀ reports last i = (i ≤ n) × Made (last₀ .search) kinds points values reports₀ i (last .search) reports
 
 abbrev μ-loop : tie.MeasureT-loop
-μ-loop kinds points values answers₀ n last₀ i₀ answers last i = n - i
+μ-loop kinds points values reports₀ n last₀ i₀ reports last i = n - i
 
 -- the number of calls
 number : (c : tie.After-lesser3 Inv-loop μ-loop)
-    → let x = c .before .before .before .before .before .args in c .lesser3 .result ≡ shortest (length (x .answers .now) / 5) (x .kinds .now) (x .points .now) (x .values .now)
+    → let x = c .before .before .before .before .before .args in c .lesser3 .result ≡ shortest (length (x .reports .now) / 5) (x .kinds .now) (x .points .now) (x .values .now)
 number c = c .lesser3 .ensures ∙ ap₂ min (c .before .before .lesser .ensures) (c .before .lesser2 .ensures)
 
 -- there is room for one report more
-room : (c : tie.In-loop Inv-loop μ-loop) → 5 * c .before .loop .i + 5 ≤ length (c .before .loop .answers)
+room : (c : tie.In-loop Inv-loop μ-loop) → 5 * c .before .loop .i + 5 ≤ length (c .before .loop .reports)
 room c = omega (arith, number (c .before .before .before), c .loop-test .taken, c .before .loop .inv .1 .same)
 
 -- the call enters the next point and value
@@ -58,7 +58,7 @@ fresh-requires c κs = search needs
 loop-holds : tie.Need-loop-holds Inv-loop μ-loop
 loop-holds c =
     let s = c .before .before .before .before .before .before .args in
-    (omega arith, led-begin (c .fresh .result .search) (s .kinds .now) (s .points .now) (s .values .now) (s .answers .now))
+    (omega arith, made-begin (c .fresh .result .search) (s .kinds .now) (s .points .now) (s .values .now) (s .reports .now))
 
 shared-slice-read-call : tie.Need-shared-slice-read-call Inv-loop μ-loop
 shared-slice-read-call c = search needs
@@ -96,8 +96,8 @@ loop-again c =
     let l = t .before .loop in
     let called = c .before .before .before .before in (
       omega arith,
-      subst (Led _ _ _ _ _ (l .i + 1) (called .call .result .search)) (sym (c .before .before .put-report .ensures))
-          (led-more _ _ _ _ _ (l .i) (l .last .search) (l .answers) (l .inv .1) (subst (λ (n : ℕ). l .i < n) (number (t .before .before .before)) (t .loop-test .taken)) (called .call .result) (entered called)),
+      subst (Made _ _ _ _ _ (l .i + 1) (called .call .result .search)) (sym (c .before .before .put-report .ensures))
+          (made-more _ _ _ _ _ (l .i) (l .last .search) (l .reports) (l .inv .1) (subst (λ (n : ℕ). l .i < n) (number (t .before .before .before)) (t .loop-test .taken)) (called .call .result) (entered called)),
     )
 
 same-length : tie.Need-same-length Inv-loop μ-loop
@@ -108,14 +108,14 @@ returns c =
     let fresh = c .before .before .before in
     let x = fresh .before .before .before .before .before .before .args in
     let l = c .before .before .loop in
-    let done = rw (fresh .fresh .ensures) at (led-end _ _ _ _ _ (l .i) (l .last .search) (l .answers) (l .inv .1) (subst (λ (n : ℕ). n ≤ l .i) (number (fresh .before)) (c .before .loop-test .left))) in
-    let calls = callsIn (x .kinds .now) (x .points .now) (x .values .now) (x .answers .now) in (
+    let done = rw (fresh .fresh .ensures) at (made-end _ _ _ _ _ (l .i) (l .last .search) (l .reports) (l .inv .1) (subst (λ (n : ℕ). n ≤ l .i) (number (fresh .before)) (c .before .loop-test .left))) in
+    let calls = callsIn (x .kinds .now) (x .points .now) (x .values .now) (x .reports .now) in (
       done .0,
       (
         done .1,
         (
           (λ a. done .0 ∙ search-held (x .opening) a calls),
-          (λ a. done .1 ∙ ap (λ (rs : List Report). writtenOver rs (x .answers .now)) (answers-told (x .opening) a calls)),
+          (λ a. done .1 ∙ ap (λ (rs : List Report). writtenOver rs (x .reports .now)) (reports-told (x .opening) a calls)),
         ),
       ),
     )

@@ -1,0 +1,33 @@
+-- A report as plain numbers, for C and for lists of numbers: its kind, then each number under its own name, and 0 for those that the
+-- kind has not.
+-- Assumes nothing.
+use Prim.Native.Nat.{ℕ}
+use mathlib.Core.List.{List, [], _∷_}
+use Rattle.rules.specs.declared.Report.{Report}
+use Rattle.rules.specs.declared.Row.{Row}
+
+-- ---- the kinds
+
+abbrev pub nextKind : ℕ
+nextKind = 1
+
+abbrev pub stopKind : ℕ
+stopKind = 2
+
+abbrev pub refusedKind : ℕ
+refusedKind = 3
+
+-- ---- the numbers
+
+abbrev pub rowOf : Report → Row
+rowOf (Report.Next point taken) =
+    record { kind = nextKind; point = point; lower = 0; upper = 0; better = 0; taken = taken; number = 0; place = 0 }
+rowOf (Report.Stop lower upper better taken) =
+    record { kind = stopKind; point = 0; lower = lower; upper = upper; better = better; taken = taken; number = 0; place = 0 }
+rowOf (Report.Refused number place) =
+    record { kind = refusedKind; point = 0; lower = 0; upper = 0; better = 0; taken = 0; number = number; place = place }
+
+-- in the order of the fields
+abbrev pub rowNumbers : Row → List ℕ
+rowNumbers w =
+    w .kind ∷ w .point ∷ w .lower ∷ w .upper ∷ w .better ∷ w .taken ∷ w .number ∷ w .place ∷ []
