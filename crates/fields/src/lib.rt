@@ -1,10 +1,11 @@
-// The fields of a record, each byte looked at once: a number at a place of a text, and the comma or the CR LF after it.
+// The fields of a record, each byte looked at once: two numbers at a place of a text, and the comma or the CR LF after each.
 ghost use mathlib.Core.Path.{_≡_};
 ghost use Prim.Native.Nat.{_≤_};
 ghost use lib.ListN.{getD};
 ghost use Rattle.forms.specs.Number.{isDigit, signed};
-ghost use Rattle.scanning.specs.Scan.{digitsAt, numberAt, beforeComma, beforeEnd};
+ghost use Rattle.scanning.specs.Scan.{digitsAt, numberAt, beforeComma, beforeEnd, beforeNext, pairAt};
 use scanning::NumberScan;
+use scanning::PairScan;
 
 const CR: u8 = b'\r';
 
@@ -66,7 +67,7 @@ fn scan_digits(s: &[u8], negative: bool, from: usize) -> NumberScan
 }
 
 // An optional minus, and digits.
-pub fn scan_number(s: &[u8], from: usize) -> NumberScan
+fn scan_number(s: &[u8], from: usize) -> NumberScan
     ensures { λ r. ⌜ r ≡ numberAt (now (s .entry)) from ⌝ }
 {
     if byte_at(s, from) == MINUS {
@@ -77,7 +78,7 @@ pub fn scan_number(s: &[u8], from: usize) -> NumberScan
 }
 
 // A number that a comma follows: on past the comma.
-pub fn before_comma(s: &[u8], n: NumberScan) -> NumberScan
+fn before_comma(s: &[u8], n: NumberScan) -> NumberScan
     ensures { λ r. ⌜ r ≡ beforeComma (now (s .entry)) n ⌝ }
 {
     let NumberScan::Is { value, next } = n else {
@@ -94,7 +95,7 @@ pub fn before_comma(s: &[u8], n: NumberScan) -> NumberScan
 }
 
 // A number that CR LF follow: on past them.
-pub fn before_end(s: &[u8], n: NumberScan) -> NumberScan
+fn before_end(s: &[u8], n: NumberScan) -> NumberScan
     ensures { λ r. ⌜ r ≡ beforeEnd (now (s .entry)) n ⌝ }
 {
     let NumberScan::Is { value, next } = n else {
@@ -109,4 +110,42 @@ pub fn before_end(s: &[u8], n: NumberScan) -> NumberScan
         }
     }
     NumberScan::Malformed
+}
+
+// A number that is the last of its record, or not.
+fn before_next(s: &[u8], n: NumberScan, last: bool) -> NumberScan
+    ensures { λ r. ⌜ r ≡ beforeNext last (now (s .entry)) n ⌝ }
+{
+    if last {
+        before_end(s, n)
+    } else {
+        before_comma(s, n)
+    }
+}
+
+// ---- pairs of numbers
+
+// Two numbers with a comma between them; after the second CR LF follow if it is the last of its record, and a comma if not.
+pub fn scan_pair(s: &[u8], from: usize, last: bool) -> PairScan
+    ensures { λ r. ⌜ r ≡ pairAt last (now (s .entry)) from ⌝ }
+{
+    let NumberScan::Is {
+        value: first,
+        next: middle,
+    } = before_comma(s, scan_number(s, from))
+    else {
+        return PairScan::Malformed;
+    };
+    let NumberScan::Is {
+        value: second,
+        next,
+    } = before_next(s, scan_number(s, middle), last)
+    else {
+        return PairScan::Malformed;
+    };
+    PairScan::Are {
+        first,
+        second,
+        next,
+    }
 }

@@ -7,12 +7,12 @@ pub enum NumberScan {
     Malformed,
 }
 
-// point,value and the length of the record
-pub enum AnswerScan {
-    Answer {
-        point: i32,
-        value: i32,
-        length: usize,
+// Two numbers with a comma between them, and the place where the scanner goes on.
+pub enum PairScan {
+    Are {
+        first: i32,
+        second: i32,
+        next: usize,
     },
     Malformed,
 }
