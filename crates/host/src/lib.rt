@@ -3,7 +3,7 @@
 ghost use mathlib.Core.Path.{_≡_};
 ghost use Rattle.rules.specs.Search.{reportOf, quoteOf};
 ghost use Rattle.held.specs.Held.{openOf, heldReport, enterOf};
-ghost use Rattle.sheet.specs.Sheet.{sheetOf};
+ghost use Rattle.outcomes.specs.Sheet.{sheetOf};
 ghost use Rattle.host.specs.Numbers.{openingOf, numbersOf, quoteNumbers, inNumbers, writtenOf};
 ghost use Rattle.held.specs.HeldLaws.{verdictOf};
 use held::Entered;

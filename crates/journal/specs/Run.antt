@@ -20,7 +20,7 @@ use Rattle.rules.specs.SearchLaws.{t-least}
 use Rattle.held.specs.declared.Search.{Search}
 use Rattle.held.specs.declared.Entered.{Entered}
 use Rattle.held.specs.Held.{freshOf, enterOf}
-use Rattle.sheet.specs.Sheet.{sheetOf}
+use Rattle.outcomes.specs.Sheet.{sheetOf}
 use Rattle.journal.specs.Answers.{Answer, values}
 use Rattle.journal.specs.Journal.{stopOf, journalReport, journalWith, toldOf, journalAfter, toldAll, bracketsOf}
 use Rattle.journal.specs.JournalLaws.{Kept, report-list, at-most-answers, fewer-answers, Nested, Opposed, kept-nested, kept-opposed}

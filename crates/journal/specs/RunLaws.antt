@@ -28,8 +28,8 @@ use Rattle.held.specs.Held.{valuesOf, standingOf, withValue, triedOf, enterOf}
 use Rattle.held.specs.HeldLaws.{enter-refused, enter-accepted}
 use Rattle.forms.specs.declared.Entries.{Entries}
 use Rattle.forms.specs.Entries.{filled, entriesOf}
-use Rattle.sheet.specs.Sheet.{leadsTo, settledAs, sheetOf}
-use Rattle.sheet.specs.SheetLaws.{outcome-accepted, sheet-read}
+use Rattle.outcomes.specs.Sheet.{leadsTo, settledAs, sheetOf}
+use Rattle.outcomes.specs.SheetLaws.{outcome-accepted, sheet-read}
 use Rattle.journal.specs.Answers.{Answer, answerValue, points, values}
 use Rattle.journal.specs.Answers as Answers
 use Rattle.journal.specs.Journal.{sampleOf, advancedBy, bracketOf, pointCalled, journalReport, refusalOf, takes, journalWith, toldOf}

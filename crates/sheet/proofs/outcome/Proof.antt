@@ -10,8 +10,8 @@ use Rattle.rules.specs.declared.Progress.{Progress}
 use Rattle.rules.specs.Rules.{slots}
 use Rattle.rules.specs.Search.{reportAt}
 use Rattle.rules.specs.SearchLaws.{CountedAt}
-use Rattle.sheet.specs.Sheet.{leadsTo}
-use Rattle.sheet.specs.SheetLaws.{settledBy, settled-is, Below, below, answers-counted, outcome-accepted, outcome-refused}
+use Rattle.outcomes.specs.Sheet.{leadsTo}
+use Rattle.outcomes.specs.SheetLaws.{settledBy, settled-is, Below, below, answers-counted, outcome-accepted, outcome-refused}
 use borrow.Author.Needs.{needs}
 use Rattle.sheet.proofs.outcome.Statement.{statement}
 use Rattle.sheet.proofs.outcome.Tie as tie

@@ -24,7 +24,7 @@ use Rattle.forms.specs.declared.AnswerRecord.{AnswerRecord}
 use Rattle.forms.specs.declared.OpeningRecord.{OpeningRecord}
 use Rattle.forms.specs.Text.{recordsOf}
 use Rattle.forms.specs.Entries.{longestText, openingPlace, answerPlace, answerOf, openingOf, opened, entered, refused, answersFrom, recordsRead, entriesOf}
-use Rattle.sheet.specs.Sheet.{leadsTo, refusedAt, keptOf, settledAs, outcomeOf, sheetOf}
+use Rattle.outcomes.specs.Sheet.{leadsTo, refusedAt, keptOf, settledAs, outcomeOf, sheetOf}
 
 -- ---- where the answers lead
 
