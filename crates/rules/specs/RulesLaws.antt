@@ -4,7 +4,8 @@ use Prim.Native.Nat.{ℕ, _+_, _-_, _*_, _/_, _≤_, _<_, min, max}
 use mathlib.Core.Path.{_≡_, refl, sym, ap, _∙_}
 use mathlib.Core.Bool.{Bool, true, false, cond}
 use mathlib.Core.Logic.{_⊎_, inl, inr, ⊎-map}
-use native.Mathlib.Nat.{le-trans, le-of-eq, le-of-lt, mul-assoc, le-of-mul-le-mul-right, div-mul-le-self, mul-le-mul-left, le-div-iff-mul-le}
+use native.Mathlib.Nat.{le-trans, le-of-eq, le-of-lt, mul-assoc, le-of-mul-le-mul-right, div-mul-le-self, mul-le-mul-left}
+use native.Mathlib.Nat.{le-div-iff-mul-le}
 use native.Mathlib.Omega.{arith}
 use borrow.Author.Tests.{leb-true, leb-false, ltb-true, ne-eqb, eq-eqb}
 use lib.Dec.{leb, ltb, eqb}
@@ -17,7 +18,9 @@ use Rattle.rules.specs.declared.Sample.{Sample}
 use Rattle.rules.specs.declared.Bracket.{Bracket}
 use Rattle.rules.specs.declared.Fraction.{Fraction}
 use Rattle.rules.specs.declared.Step.{Step}
-use Rattle.rules.specs.Rules.{toleranceAt, closer, pairOf, startOf, lowerOf, upperOf, gapOf, widthOf, stoppedOf, forwardOf, displacementOf, rising, opposed, partnerOf, streakOf, renewedOf, advanceOf, allowed, stepOf, reachOf, offsetOf, nextOf}
+use Rattle.rules.specs.Rules.{toleranceAt, closer, pairOf, startOf, lowerOf, upperOf, gapOf, widthOf, stoppedOf, forwardOf}
+use Rattle.rules.specs.Rules.{displacementOf, rising, opposed, partnerOf, streakOf, renewedOf, advanceOf, allowed, stepOf, reachOf}
+use Rattle.rules.specs.Rules.{offsetOf, nextOf}
 
 -- ---- Rule 3: while the search goes on, D is from τ to half of L
 
@@ -98,11 +101,25 @@ module _ (o : Opening) (k : Bracket) (tol : 1 ≤ toleranceAt o (k .better .poin
       go true e =
           let h = leb-true (k .better .point) (k .other .point) e in
           let i = offset-in o k going in
-          record { above = omega arith; below = omega arith; near = omega arith; far = omega arith; some = omega (arith, i .low); short = omega (arith, i .high, i .low) }
+          record {
+            above = omega arith;
+            below = omega arith;
+            near = omega arith;
+            far = omega arith;
+            some = omega (arith, i .low);
+            short = omega (arith, i .high, i .low);
+          }
       go false e =
           let h = leb-false (k .better .point) (k .other .point) e in
           let i = offset-in o k going in
-          record { above = omega arith; below = omega arith; near = omega arith; far = omega arith; some = omega (arith, i .low); short = omega (arith, i .high, i .low) }
+          record {
+            above = omega arith;
+            below = omega arith;
+            near = omega arith;
+            far = omega arith;
+            some = omega (arith, i .low);
+            short = omega (arith, i .high, i .low);
+          }
 
 -- ---- Rule 6: the partner is an end of the old bracket, and not on x's side
 
