@@ -23,7 +23,7 @@ use Rattle.rules.specs.SearchLaws.{accepted-more, accepted-room, taken-is}
 use Rattle.held.specs.declared.Search.{Search}
 use Rattle.held.specs.declared.Entered.{Entered}
 use Rattle.held.specs.declared.Verdict.{Verdict}
-use Rattle.held.specs.Held.{countAbove, freshOf, blank, openOf, valuesOf, standingOf, heldReport, withValue, triedOf, enterOf}
+use Rattle.held.specs.Held.{countAbove, freshOf, blank, reopenOf, valuesOf, standingOf, heldReport, withValue, triedOf, enterOf}
 
 -- a slot is free
 pub record Free (s : Search) : Type 0 where
@@ -127,15 +127,15 @@ blank-entry x v = refl
 
 -- ---- the calls, from what their parts answer
 
--- a fresh search: n is the opening's refusal, and h the search beside the report
-module _ (o : Opening) (n : ℕ) (h : Search) (e : n ≡ openingRefusal o) where
-  pub open-refused : (n ≡ 0 → ⊥) → h ≡ blank → record { report = Report.Refused n 0; search = h } ≡ openOf o
-  unfolding openOf
-  open-refused t g = rw g (rw (← e) (simp (ne-eqb n 0 t)))
+-- an opening: n is its refusal, and h the search beside the report
+module _ (s : Search) (o : Opening) (n : ℕ) (e : n ≡ openingRefusal o) where
+  pub open-refused : (n ≡ 0 → ⊥) → record { report = Report.Refused n 0; search = s } ≡ reopenOf s o
+  unfolding reopenOf
+  open-refused t = rw (← e) (simp (ne-eqb n 0 t))
 
-  pub open-accepted : n ≡ 0 → (x : ℕ) → x ≡ firstOf o → h ≡ freshOf o → record { report = Report.Next x 0; search = h } ≡ openOf o
-  unfolding openOf reportOf progressOf beginOf reportAt
-  open-accepted t x f g = rw (f, g) (simp (eq-eqb _ 0 (sym e ∙ t)))
+  pub open-accepted : n ≡ 0 → (x : ℕ) → x ≡ firstOf o → (h : Search) → h ≡ freshOf o → record { report = Report.Next x 0; search = h } ≡ reopenOf s o
+  unfolding reopenOf reportOf progressOf beginOf reportAt
+  open-accepted t x f h g = rw (f, g) (simp (eq-eqb _ 0 (sym e ∙ t)))
 
 -- an answer: q is where the search stands then
 module _ (s : Search) (x v : ℤ) (q : Progress) (r : Report) (e : q ≡ triedOf s x v) (f : r ≡ reportAt (s .opening) q) where

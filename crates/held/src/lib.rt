@@ -3,7 +3,7 @@ ghost use mathlib.Core.Path.{_≡_};
 ghost use lib.ListN.{length, take};
 ghost use Rattle.rules.specs.Rules.{slots};
 ghost use Rattle.rules.specs.Search.{answersOf, reportAt, isRefusal};
-ghost use Rattle.held.specs.Held.{freshOf, openOf, heldReport, enterOf};
+ghost use Rattle.held.specs.Held.{freshOf, reopenOf, openOf, heldReport, enterOf};
 ghost use Rattle.held.specs.HeldLaws.{standingBy, searchOf, verdictOf};
 use rules::Opening;
 use rules::Report;
@@ -122,24 +122,18 @@ impl Search {
 
     pub const SLOTS: usize = rules::SLOTS;
 
-    // A fresh search and its report. A refused opening makes none: beside the refusal stands a blank, which every call refuses.
-    pub fn fresh(opening: Opening) -> Entered
-        ensures { λ r. ⌜ r ≡ openOf opening ⌝ }
+    // A fresh search of an opening in this one's place, and its report. A refused opening makes none: this search stays as it is.
+    pub fn reopen(self, opening: Opening) -> Entered
+        ensures { λ r. ⌜ r ≡ reopenOf self opening ⌝ }
     {
         let n = walk::opening_refusal(opening);
         if n != 0 {
-            let nothing = Opening {
-                method: 0,
-                first: 0,
-                second: 0,
-                tolerance: 0,
-            };
             return Entered {
                 report: Report::Refused {
                     number: n,
                     place: 0,
                 },
-                search: unanswered(nothing),
+                search: self,
             };
         }
         let point = interpolation::magnitude(opening.first);
@@ -147,6 +141,20 @@ impl Search {
             report: Report::Next { point, taken: 0 },
             search: unanswered(opening),
         }
+    }
+
+    // A fresh search and its report. Beside the refusal of an opening stands a blank, which every call refuses.
+    pub fn fresh(opening: Opening) -> Entered
+        ensures { λ r. ⌜ r ≡ openOf opening ⌝ }
+    {
+        let nothing = Opening {
+            method: 0,
+            first: 0,
+            second: 0,
+            tolerance: 0,
+        };
+        let blank = unanswered(nothing);
+        blank.reopen(opening)
     }
 
     // The report of the search as it stands.
@@ -172,28 +180,5 @@ impl Search {
             report,
             search: next,
         }
-    }
-}
-
-// The same for the host's own search: one slot and the count are stored.
-pub fn enter_into(search: &mut Search, point: i32, value: i32) -> Report
-    ensures { λ r. ⌜ (r ≡ (enterOf (now (search .entry)) point value) .report) × (now (search .exit) ≡ (enterOf (now (search .entry)) point value) .search) ⌝ }
-{
-    let v = judge(*search, point, value);
-    let at = v.at;
-    (*search).slots[at] = v.value;
-    (*search).count = v.count;
-    v.report
-}
-
-// The same with plain parameters: a search of one's own is lent, and comes back beside the report.
-pub fn enter_through(search: Search, point: i32, value: i32) -> Entered
-    ensures { λ r. ⌜ r ≡ enterOf search point value ⌝ }
-{
-    let mut held = search;
-    let report = enter_into(&mut held, point, value);
-    Entered {
-        report,
-        search: held,
     }
 }

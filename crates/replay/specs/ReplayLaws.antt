@@ -18,7 +18,7 @@ use Rattle.rules.specs.declared.Report.{Report}
 use Rattle.rules.specs.Refusals.{openingRefusal, Accepted}
 use Rattle.held.specs.declared.Search.{Search}
 use Rattle.held.specs.declared.Entered.{Entered}
-use Rattle.held.specs.Held.{freshOf, openOf, enterOf}
+use Rattle.held.specs.Held.{freshOf, reopenOf, openOf, enterOf}
 use Rattle.journal.specs.Answers.{Answer}
 use Rattle.journal.specs.Journal.{toldAll}
 use Rattle.journal.specs.RunLaws.{holding}
@@ -161,7 +161,7 @@ module _ (s₀ : Search) (ks : List ℕ) (xs vs : List ℤ) (before : List ℕ) 
 -- ---- the trial book
 
 fresh-opened : (o : Opening) → Accepted o → openOf o .search ≡ freshOf o
-unfolding openOf
+unfolding reopenOf
 fresh-opened o a = simp (eq-eqb (openingRefusal o) 0 (a .accepted))
 
 -- for an accepted opening the reports are the journal's, and the search holds the journal's values
