@@ -1,35 +1,16 @@
 -- The report as one RFC 4180 record: the word next, stop or refuse, then its numbers, then CR LF. No field needs quotes. A text is
 -- the list of its bytes.
 -- Assumes nothing.
-use Prim.Native.Nat.{ℕ, zero, suc, _+_, _/_, _%_}
-use mathlib.Core.Bool.{true, false, cond}
+use Prim.Native.Nat.{ℕ}
+use mathlib.Core.Bool.{cond}
 use mathlib.Core.List.{List, [], _∷_, _++_}
-use lib.Dec.{leb, ltb}
+use lib.Dec.{leb}
 use lib.ListN.{length, drop}
 use Rattle.rules.specs.declared.Report.{Report}
-
--- ---- numbers
-
--- the byte of a digit
-abbrev pub digit : ℕ → ℕ
-digit d = 48 + d
-
--- the decimal digits of n, the most significant first, where there are at most f of them
-unfoldable pub digitsWithin : ℕ → ℕ → List ℕ
-digitsWithin zero n = []
-digitsWithin (suc f) n =
-    elim (ltb n 10) [ true ↦ digit n ∷ [] | false ↦ digitsWithin f (n / 10) ++ (digit (n % 10) ∷ []) ]
-
--- the decimal digits of n, of which there are at most n + 1; 0 has one
-unfoldable pub digitsOf : ℕ → List ℕ
-digitsOf n = digitsWithin (suc n) n
+use Rattle.lines.specs.Decimal.{numberFields}
+use Rattle.lines.specs.Line.{longestLine}
 
 -- ---- records
-
--- a comma and its digits, for each number
-unfoldable pub fieldsOf : List ℕ → List ℕ
-fieldsOf [] = []
-fieldsOf (n ∷ ns) = 44 ∷ digitsOf n ++ fieldsOf ns
 
 -- CR LF
 abbrev pub lineEnd : List ℕ
@@ -37,7 +18,7 @@ lineEnd = 13 ∷ 10 ∷ []
 
 -- a record of a word and numbers
 unfoldable pub recordWith : List ℕ → List ℕ → List ℕ
-recordWith word numbers = word ++ fieldsOf numbers ++ lineEnd
+recordWith word numbers = word ++ numberFields numbers ++ lineEnd
 
 -- the word: `next`, `stop` or `refuse`
 abbrev pub wordOf : Report → List ℕ
@@ -54,9 +35,9 @@ reportNumbers (Report.Refused number place) = number ∷ place ∷ []
 unfoldable pub recordOf : Report → List ℕ
 recordOf report = recordWith (wordOf report) (reportNumbers report)
 
--- the length of the longestRecord record of 32-bit numbers: `stop`, four commas, four numbers of ten digits, CR LF
+-- the length of the longest record of 32-bit numbers: `stop`, four commas, four numbers of ten digits, CR LF
 abbrev pub longestRecord : ℕ
-longestRecord = 50
+longestRecord = longestLine
 
 -- ---- a text written into a buffer
 

@@ -1,10 +1,11 @@
 // A report as plain numbers, and as one RFC 4180 record of document 01: the word next, stop or refuse, then its numbers, then CR LF.
 ghost use mathlib.Core.Path.{_≡_};
-ghost use Prim.Native.Nat.{_+_, _≤_, _<_};
+ghost use Prim.Native.Nat.{_≤_};
 ghost use lib.ListN.{length};
 ghost use Rattle.rules.specs.Rows.{rowOf};
-ghost use Rattle.printing.specs.Printed.{longestRecord, digitsOf, fieldsOf, recordWith, recordOf, placed, placedLength};
-ghost use Rattle.printing.specs.Line.{put, written, Holds};
+ghost use Rattle.lines.specs.Line.{Holds};
+ghost use Rattle.printing.specs.Printed.{longestRecord, recordWith, recordOf, placed, placedLength};
+use lines::Line;
 use rules::Report;
 use rules::Row;
 
@@ -55,77 +56,20 @@ pub fn row_of(report: Report) -> Row
 
 // ---- a record
 
-// The length of the longestRecord record: `stop` and four numbers of ten digits.
-pub const LONGEST_RECORD: usize = 50;
-
-// A line in the making: its first `len` bytes are written.
-struct Line {
-    bytes: [u8; LONGEST_RECORD],
-    len: usize,
-}
-
-// One byte more.
-fn put_byte(line: Line, byte: u8) -> Line
-    requires { ⌜ line .len < longestRecord ⌝ }
-    ensures { λ r. ⌜ r ≡ put line byte ⌝ }
-{
-    let mut next = line;
-    let at = next.len;
-    next.bytes[at] = byte;
-    next.len = at + 1;
-    next
-}
-
-// The bytes of a text, one after the other.
-fn put_text(line: Line, text: &[u8]) -> Line
-    requires { ⌜ line .len + length (now text) ≤ longestRecord ⌝ }
-    ensures { λ r. ⌜ r ≡ written line (now (text .entry)) ⌝ }
-{
-    let mut next = line;
-    let mut i = 0;
-    while i < text.len() {
-        next = put_byte(next, text[i]);
-        i += 1;
-    }
-    next
-}
-
-// The digits of a number: those of its tenth part, and the last.
-fn put_number(line: Line, n: u32) -> Line
-    requires { ⌜ line .len + length (digitsOf n) ≤ longestRecord ⌝ }
-    ensures { λ r. ⌜ r ≡ written line (digitsOf n) ⌝ }
-{
-    if n < 10 {
-        return put_byte(line, b'0' + n as u8);
-    }
-    put_byte(put_number(line, n / 10), b'0' + (n % 10) as u8)
-}
-
-// A comma and the digits, for each number.
-fn put_fields(line: Line, numbers: &[u32]) -> Line
-    requires { ⌜ line .len + length (fieldsOf (now numbers)) ≤ longestRecord ⌝ }
-    ensures { λ r. ⌜ r ≡ written line (fieldsOf (now (numbers .entry))) ⌝ }
-{
-    let mut next = line;
-    let mut i = 0;
-    while i < numbers.len() {
-        next = put_number(put_byte(next, b','), numbers[i]);
-        i += 1;
-    }
-    next
-}
+// The length of the longest record: `stop` and four numbers of ten digits.
+pub const LONGEST_RECORD: usize = lines::LONGEST_LINE;
 
 // The record of a word and numbers, which is short enough.
 fn line_with(word: &[u8], numbers: &[u32]) -> Line
     requires { ⌜ length (recordWith (now word) (now numbers)) ≤ longestRecord ⌝ }
     ensures { λ r. ⌜ Holds r (recordWith (now (word .entry)) (now (numbers .entry))) ⌝ }
 {
-    let blank = Line {
+    let empty = Line {
         bytes: [0; LONGEST_RECORD],
         len: 0,
     };
-    let line = put_fields(put_text(blank, word), numbers);
-    put_text(line, b"\r\n")
+    let line = lines::put_fields(lines::put_text(empty, word), numbers);
+    lines::put_text(line, b"\r\n")
 }
 
 // The record of a report.

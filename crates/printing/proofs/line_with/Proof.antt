@@ -5,9 +5,11 @@ use Prim.Native.Nat.{ℕ}
 use mathlib.Core.Path.{_≡_}
 use mathlib.Core.List.{List}
 use native.Mathlib.Omega.{arith}
-use Rattle.printing.specs.Printed.{fieldsOf, lineEnd, recordWith}
+use Rattle.lines.specs.Decimal.{numberFields}
+use Rattle.lines.specs.Line.{emptyLine, written}
+use Rattle.lines.specs.LineLaws.{written-append, written-len, written-holds}
+use Rattle.printing.specs.Printed.{lineEnd, recordWith}
 use Rattle.printing.specs.PrintedLaws.{record-parts}
-use Rattle.printing.specs.Line.{blank, written, written-append, written-len, written-holds}
 use Rattle.printing.proofs.line_with.Statement.{statement}
 use Rattle.printing.proofs.line_with.Tie as tie
 
@@ -30,7 +32,7 @@ put-text-requires-2 c κs =
     simp (c .before .put-fields .ensures, c .before .before .put-text .ensures, written-len)
     (omega (arith, record-parts (s .word .now) (s .numbers .now)))
 
-parts : (word numbers : List ℕ) → written (written (written blank word) (fieldsOf numbers)) lineEnd ≡ written blank (recordWith word numbers)
+parts : (word numbers : List ℕ) → written (written (written emptyLine word) (numberFields numbers)) lineEnd ≡ written emptyLine (recordWith word numbers)
 unfolding recordWith
 parts word numbers = rw (written-append, written-append)
 

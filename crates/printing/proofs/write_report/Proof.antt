@@ -3,7 +3,7 @@
 use borrow.Author.Needs.{needs}
 use native.Mathlib.Omega.{arith}
 use lib.ListN.{length-take}
-use Rattle.printing.specs.Line.{holds-short}
+use Rattle.lines.specs.LineLaws.{holds-short}
 use Rattle.printing.proofs.write_report.Statement.{statement}
 use Rattle.printing.proofs.write_report.Tie as tie
 

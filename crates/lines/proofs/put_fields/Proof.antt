@@ -1,17 +1,18 @@
--- `printing::put_fields` meets its contract. The loop's invariant: the line so far holds the fields of the first i numbers, and there
+-- `lines::put_fields` meets its contract. The loop's invariant: the line so far holds the fields of the first i numbers, and there
 -- is room for the others. The measure is how many they are.
 -- Assumes nothing.
 use Prim.Native.Nat.{_-_}
 use native.Mathlib.Omega.{arith}
 use lib.ListN.{length}
 use borrow.Author.Needs.{needs}
-use Rattle.printing.specs.Printed.{fieldsOf}
-use Rattle.printing.specs.Line.{written, fieldwise, SoFar, none-yet, next-fits, one-more, all-put}
-use Rattle.printing.proofs.put_fields.Statement.{statement}
-use Rattle.printing.proofs.put_fields.Tie as tie
+use Rattle.lines.specs.Decimal.{numberFields}
+use Rattle.lines.specs.Line.{written}
+use Rattle.lines.specs.LineLaws.{fieldwise, SoFar, none-yet, next-fits, one-more, all-put}
+use Rattle.lines.proofs.put_fields.Statement.{statement}
+use Rattle.lines.proofs.put_fields.Tie as tie
 
 abbrev Inv-loop : tie.InvT-loop
-Inv-loop numbers next₀ i₀ next i = SoFar fieldsOf next₀ numbers next i
+Inv-loop numbers next₀ i₀ next i = SoFar numberFields next₀ numbers next i
 
 abbrev μ-loop : tie.MeasureT-loop
 μ-loop numbers next₀ i₀ next i = length numbers - i

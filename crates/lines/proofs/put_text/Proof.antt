@@ -1,12 +1,13 @@
--- `printing::put_text` meets its contract. The loop's invariant: the line so far holds the first i bytes, and there is room for the
+-- `lines::put_text` meets its contract. The loop's invariant: the line so far holds the first i bytes, and there is room for the
 -- others. The measure is how many they are.
 -- Assumes nothing.
 use Prim.Native.Nat.{_-_}
 use native.Mathlib.Omega.{arith}
 use lib.ListN.{length}
-use Rattle.printing.specs.Line.{written, bytewise, SoFar, none-yet, next-fits, one-more, all-put}
-use Rattle.printing.proofs.put_text.Statement.{statement}
-use Rattle.printing.proofs.put_text.Tie as tie
+use Rattle.lines.specs.Line.{written}
+use Rattle.lines.specs.LineLaws.{bytewise, SoFar, none-yet, next-fits, one-more, all-put}
+use Rattle.lines.proofs.put_text.Statement.{statement}
+use Rattle.lines.proofs.put_text.Tie as tie
 
 abbrev Inv-loop : tie.InvT-loop
 Inv-loop text next₀ i₀ next i = SoFar (λ bs. bs) next₀ text next i

@@ -1,4 +1,4 @@
--- A line in the making: what it holds after some bytes have been put, and the laws of the loops that put them.
+-- The laws of a line in the making: what it holds after a text, and the loops that put the pieces of a list.
 -- Assumes nothing.
 use Prim.Native.Nat.{ℕ, suc, _+_, _≤_, _<_}
 use mathlib.Core.Path.{_≡_, refl, sym, ap, _∙_}
@@ -6,23 +6,11 @@ use mathlib.Core.List.{List, [], _∷_, _++_, append-nil}
 use native.Mathlib.Nat.{add-zero}
 use native.Mathlib.Numerals.{add-one}
 use native.Mathlib.Omega.{arith}
-use lib.ListN.{length, take, drop, getD, set, replicate, length-append, length-set, drop-of-length-le}
+use lib.ListN.{length, take, drop, getD, length-append, length-set, drop-of-length-le}
 use lib.Seq.{length-take-le, drop-cons, take-suc-set, append-snoc}
-use Rattle.printing.specs.declared.Line.{Line}
-use Rattle.printing.specs.Printed.{digitsOf, fieldsOf, longestRecord}
-
--- with nothing written
-abbrev pub blank : Line
-blank = record { bytes = replicate longestRecord 0; len = 0 }
-
--- with one byte more
-abbrev pub put : Line → ℕ → Line
-put l b = record { bytes = set (l .bytes) (l .len) b; len = l .len + 1 }
-
--- with the bytes of a text, one after the other
-unfoldable pub written : Line → List ℕ → Line
-written l [] = l
-written l (b ∷ bs) = written (put l b) bs
+use Rattle.lines.specs.declared.Line.{Line}
+use Rattle.lines.specs.Decimal.{decimalOf, numberFields}
+use Rattle.lines.specs.Line.{longestLine, emptyLine, put, written, Holds}
 
 pub written-append : (l : Line) (xs ys : List ℕ) → written l (xs ++ ys) ≡ written (written l xs) ys
 unfolding written
@@ -48,20 +36,14 @@ unfolding written
 written-size l [] = refl
 written-size l (b ∷ bs) = written-size (put l b) bs ∙ length-set (l .bytes) (l .len) b
 
--- the line's bytes so far are the text
-pub record Holds (l : Line) (text : List ℕ) : Type 0 where
-  pub size : length (l .bytes) ≡ longestRecord
-  pub inside : l .len ≤ length (l .bytes)
-  pub text-is : take (l .len) (l .bytes) ≡ text
-
-pub written-holds : (text : List ℕ) → length text ≤ longestRecord → Holds (written blank text) text
+pub written-holds : (text : List ℕ) → length text ≤ longestLine → Holds (written emptyLine text) text
 written-holds text h = record {
-  size = written-size blank text;
+  size = written-size emptyLine text;
   inside = rw (written-len, written-size) (omega arith);
-  text-is = written-text blank text (omega arith);
+  text-is = written-text emptyLine text (omega arith);
 }
 
-pub holds-short : {l : Line} {text : List ℕ} → Holds l text → length text ≤ longestRecord
+pub holds-short : {l : Line} {text : List ℕ} → Holds l text → length text ≤ longestLine
 holds-short {l} h = rw (← h .text-is, length-take-le (l .len) (l .bytes) (h .inside)) (omega arith)
 
 -- ---- a loop over a list whose elements are put one after the other
@@ -75,17 +57,17 @@ pub record Piecewise (print : List ℕ → List ℕ) (piece : ℕ → List ℕ) 
 pub bytewise : Piecewise (λ text. text) (λ b. b ∷ [])
 bytewise = record { none = refl; one = λ x xs. refl }
 
-pub fieldwise : Piecewise fieldsOf (λ n. 44 ∷ digitsOf n)
-unfolding fieldsOf
+pub fieldwise : Piecewise numberFields (λ n. 44 ∷ decimalOf n)
+unfolding numberFields
 fieldwise = record { none = refl; one = λ x xs. refl }
 
 -- `l` is `l₀` with the first i elements: the others put to it come to all of them put to `l₀`, and there is room for them
 pub record SoFar (print : List ℕ → List ℕ) (l₀ : Line) (xs : List ℕ) (l : Line) (i : ℕ) : Type 0 where
   pub within : i ≤ length xs
   pub same : written l (print (drop i xs)) ≡ written l₀ (print xs)
-  pub room : l .len + length (print (drop i xs)) ≤ longestRecord
+  pub room : l .len + length (print (drop i xs)) ≤ longestLine
 
-pub none-yet : {print : List ℕ → List ℕ} {l : Line} (xs : List ℕ) → l .len + length (print xs) ≤ longestRecord
+pub none-yet : {print : List ℕ → List ℕ} {l : Line} (xs : List ℕ) → l .len + length (print xs) ≤ longestLine
     → SoFar print l xs l 0
 none-yet xs h = record { within = omega arith; same = refl; room = h }
 
@@ -95,7 +77,7 @@ module _ {print : List ℕ → List ℕ} {piece : ℕ → List ℕ} (p : Piecewi
   cut : i < length xs → print (drop i xs) ≡ piece (getD xs i 0) ++ print (drop (i + 1) xs)
   cut h = rw (add-one i, drop-cons xs i 0 h) (p .one (getD xs i 0) (drop (suc i) xs))
 
-  pub next-fits : i < length xs → l .len + length (piece (getD xs i 0)) ≤ longestRecord
+  pub next-fits : i < length xs → l .len + length (piece (getD xs i 0)) ≤ longestLine
   next-fits h = omega (arith, so-far .room, simp length-append at (ap length (cut h)))
 
   pub one-more : i < length xs → SoFar print l₀ xs (written l (piece (getD xs i 0))) (i + 1)
