@@ -12,7 +12,7 @@ use lib.Dec.{ltb}
 use lib.IntN.{ℤ, pos}
 use lib.ListN.{length, getD, set}
 use lib.Seq.{take-suc-set, length-take-le, set-getD}
-use Rattle.integers.specs.Signs.{never}
+use Rattle.integers.specs.SignsLaws.{never}
 use Rattle.rules.specs.declared.Opening.{Opening}
 use Rattle.rules.specs.declared.Progress.{Progress}
 use Rattle.rules.specs.declared.Report.{Report}

@@ -2,42 +2,31 @@
 -- hold by computation.
 -- Assumes nothing.
 use Prim.Native.Nat.{ℕ}
-use Prim.Native.Char.{code}
 use Prim.Native.String.{String}
-use Prim.Native.String as string
 use mathlib.Core.Path.{_≡_, refl}
 use mathlib.Core.List.{List, [], _∷_}
-use lib.IntN.{ℤ, pos, negℤ}
-use Rattle.rules.specs.declared.Opening.{Opening}
+use lib.IntN.{ℤ, pos}
 use Rattle.rules.specs.declared.Report.{Report}
-use Rattle.rules.specs.Rules.{methodOf, toleranceAt, startOf, stoppedOf, forwardOf, displacementOf, linearOf, crossOf, rationalOf, doubledOf, opposed, partnerOf, streakOf, renewedOf, advanceOf, stepOf, reachOf, offsetOf, nextOf}
+use Rattle.rules.specs.Rules.{padded, methodOf, toleranceAt, startOf, stoppedOf, forwardOf, displacementOf, linearOf, crossOf, rationalOf}
+use Rattle.rules.specs.Rules.{doubledOf, opposed, partnerOf, streakOf, renewedOf, advanceOf, stepOf, reachOf, offsetOf, nextOf}
 use Rattle.rules.specs.Refusals.{openingRefusal, answerRefusal, sameSide}
 use Rattle.rules.specs.Search.{beginOf, offerOf, answersOf, bracketReport, reportAt}
 use Rattle.held.specs.declared.Entered.{Entered}
 use Rattle.held.specs.Held.{blank}
 use Rattle.forms.specs.Text.{recordsOf, fieldsOf}
 use Rattle.forms.specs.Number.{allDigits, valueFrom, signedOf, numberOf}
-use Rattle.forms.specs.Entries.{answerOf, openingOf, padded, refused, opened, entered, answersFrom, recordsRead, entriesOf}
+use Rattle.forms.specs.Entries.{answerOf, openingOf, refused, opened, entered, answersFrom, recordsRead, entriesOf}
+use Rattle.forms.specs.Examples.{bytes, upTo100, below}
 use Rattle.outcomes.specs.Sheet.{outcomeOf, sheetOf}
-
--- the bytes of a text; all that stand here are below 128
-abbrev bytes : String → List ℕ
-bytes = elim [ string.[] ↦ [] | string._∷_ c (s → rest) ↦ code c ∷ rest ]
 
 record Example : Type 0 where
   text : List ℕ
   outcome : Entered
 
--- M from 0 to 100, τ 1
-abbrev upTo100 : Opening
-upTo100 = record { method = pos 1; first = pos 0; second = pos 100; tolerance = pos 1 }
-
-abbrev minus : ℕ → ℤ
-minus n = negℤ (pos n)
-
--- a sheet of that opening and the values, with its report; and a refused one
+-- a sheet by M from 0 to 100 with τ 1 and the values, with its report; and a refused one
 abbrev held : String → ℕ → List ℤ → Report → Example
-held s n vs r = record { text = bytes s; outcome = record { report = r; search = record { opening = upTo100; count = n; slots = padded vs } } }
+held s n vs r =
+    record { text = bytes s; outcome = record { report = r; search = record { opening = upTo100; count = n; slots = padded vs } } }
 
 abbrev refuses : String → ℕ → ℕ → Example
 refuses s n k = record { text = bytes s; outcome = record { report = Report.Refused n k; search = blank } }
@@ -46,7 +35,8 @@ abbrev examples : List Example
 examples =
     -- no answer, and document 01's sheet to its stop
     held "1,0,100,1\r\n" 0 [] (Report.Next 0 0)
-    ∷ held "1,0,100,1\r\n0,-50\r\n100,100\r\n33,-10\r\n41,-2\r\n43,1\r\n" 5 (minus 50 ∷ pos 100 ∷ minus 10 ∷ minus 2 ∷ pos 1 ∷ []) (Report.Stop 41 43 43 5)
+    ∷ held "1,0,100,1\r\n0,-50\r\n100,100\r\n33,-10\r\n41,-2\r\n43,1\r\n" 5 (below 50 ∷ pos 100 ∷ below 10 ∷ below 2 ∷ pos 1 ∷ [])
+    (Report.Stop 41 43 43 5)
     -- with 42,1 last
     ∷ refuses "1,0,100,1\r\n0,-50\r\n100,100\r\n33,-10\r\n41,-2\r\n42,1\r\n" 6 6
     -- the form of every record comes before the opening, and the opening before the answers
@@ -61,5 +51,8 @@ AllCome [] = Unit {0}
 AllCome (e ∷ es) = (sheetOf (e .text) ≡ e .outcome) × AllCome es
 
 examples-hold : AllCome examples
-unfolding methodOf toleranceAt startOf stoppedOf forwardOf displacementOf linearOf crossOf rationalOf doubledOf opposed partnerOf streakOf renewedOf advanceOf stepOf reachOf offsetOf nextOf openingRefusal answerRefusal sameSide beginOf offerOf answersOf bracketReport reportAt recordsOf fieldsOf allDigits valueFrom signedOf numberOf answerOf openingOf refused opened entered answersFrom recordsRead entriesOf outcomeOf sheetOf
+unfolding methodOf toleranceAt startOf stoppedOf forwardOf displacementOf linearOf crossOf rationalOf doubledOf opposed partnerOf streakOf
+    renewedOf advanceOf stepOf reachOf offsetOf nextOf openingRefusal answerRefusal sameSide beginOf offerOf answersOf bracketReport reportAt
+    recordsOf fieldsOf allDigits valueFrom signedOf numberOf answerOf openingOf refused opened entered answersFrom recordsRead entriesOf
+    outcomeOf sheetOf
 examples-hold = (refl, (refl, (refl, (refl, (refl, (refl, tt))))))

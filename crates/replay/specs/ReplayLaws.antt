@@ -21,8 +21,8 @@ use Rattle.held.specs.declared.Entered.{Entered}
 use Rattle.held.specs.Held.{freshOf, reopenOf, openOf, enterOf}
 use Rattle.journal.specs.Answers.{Answer}
 use Rattle.journal.specs.Journal.{toldAll}
-use Rattle.journal.specs.RunLaws.{holding}
-use Rattle.journal.specs.Run.{Call, byValue, into, offered, callOf, reportsOf, searchAfter, journalOf, run}
+use Rattle.journal.specs.Run.{Call, byValue, into, offered, callOf, reportsOf, searchAfter, journalOf, holding}
+use Rattle.journal.specs.RunHolds.{run}
 use Rattle.replay.specs.Replay.{callWith, callsUpTo, callsIn, codeOf, codes, writtenOver}
 
 -- ---- the calls one by one

@@ -11,7 +11,8 @@ use native.Mathlib.Omega.{arith}
 use lib.Dec.{leb}
 use lib.Pow.{pow-pos}
 use borrow.Author.Tests.{leb-true, leb-false}
-use Rattle.integers.specs.Digits.{digits, digits-least, digits-le, digits-half, digits-some, Least}
+use Rattle.integers.specs.Digits.{digits, Least}
+use Rattle.integers.specs.DigitsLaws.{digits-least, digits-le, digits-half, digits-some}
 use Rattle.rules.specs.Rules.{streakOf}
 use Rattle.rules.specs.RulesLaws.{Halves}
 use Rattle.rules.specs.Search.{turnsOf}

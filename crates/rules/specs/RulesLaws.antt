@@ -11,14 +11,15 @@ use borrow.Author.Tests.{leb-true, leb-false, ltb-true, ne-eqb, eq-eqb}
 use lib.Dec.{leb, ltb, eqb}
 use lib.IntN.{ℤ, pos, negsuc, negℤ, natAbs}
 use lib.Signed.{ltZ}
-use Rattle.integers.specs.Signs.{eqZ, never, positive-of-negative, positive-of-neither, crosses-comm, crosses-turn}
+use Rattle.integers.specs.Signs.{eqZ}
+use Rattle.integers.specs.SignsLaws.{never, positive-of-negative, positive-of-neither, crosses-comm, crosses-turn}
 use Rattle.rules.specs.declared.Opening.{Opening}
 use Rattle.rules.specs.declared.Method.{Method}
 use Rattle.rules.specs.declared.Sample.{Sample}
 use Rattle.rules.specs.declared.Bracket.{Bracket}
 use Rattle.rules.specs.declared.Fraction.{Fraction}
 use Rattle.rules.specs.declared.Step.{Step}
-use Rattle.rules.specs.Rules.{toleranceAt, closer, pairOf, startOf, lowerOf, upperOf, gapOf, widthOf, stoppedOf, forwardOf}
+use Rattle.rules.specs.Rules.{toleranceAt, closer, pairOf, startOf, lowerOf, upperOf, gapOf, widthOf, Inside, stoppedOf, forwardOf}
 use Rattle.rules.specs.Rules.{displacementOf, rising, opposed, partnerOf, streakOf, renewedOf, advanceOf, allowed, stepOf, reachOf}
 use Rattle.rules.specs.Rules.{offsetOf, nextOf}
 
@@ -163,11 +164,6 @@ module _ (k : Bracket) (x : Sample) (held : Straddles k) where
           })
 
 -- ---- the step from a bracket to the next
-
--- k' lies within k
-pub record Inside (k k' : Bracket) : Type 0 where
-  pub lower : lowerOf k ≤ lowerOf k'
-  pub upper : upperOf k' ≤ upperOf k
 
 pub record Advance (k : Bracket) (D : ℕ) (k' : Bracket) : Type 0 where
   pub held : Straddles k'

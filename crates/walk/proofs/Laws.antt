@@ -6,7 +6,7 @@ use native.Mathlib.Omega.{arith}
 use borrow.Author.Tests.{ltb-true, le-ltb}
 use lib.IntN.{ℤ, pos, negsuc}
 use lib.Signed.{ltZ}
-use Rattle.integers.specs.Signs.{never}
+use Rattle.integers.specs.SignsLaws.{never}
 use Rattle.rules.specs.Refusals.{sameSide}
 
 -- ---- the side of the second value, by the sign of the first
