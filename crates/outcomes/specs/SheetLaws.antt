@@ -47,7 +47,9 @@ answers-few e [] h = h
 answers-few e (r ∷ rs) h = go (eqb (e .count) slots) refl (answerOf r) (λ x v. answers-few (entered e x v) rs)
   where
     go : (b : Bool) → eqb (e .count) slots ≡ b → (a : AnswerRecord) → ((x v : ℤ) → e .count + 1 ≤ slots → answersFrom (entered e x v) rs .count ≤ slots)
-        → cond {A = Entries} b (refused 11 (e .count + 2)) (elim a [ AnswerRecord.Answer x v ↦ answersFrom (entered e x v) rs | AnswerRecord.Malformed ↦ refused 12 (e .count + 2) ]) .count ≤ slots
+        → cond {A = Entries} b (refused 11 (e .count + 2))
+        (elim a [ AnswerRecord.Answer x v ↦ answersFrom (entered e x v) rs | AnswerRecord.Malformed ↦ refused 12 (e .count + 2) ]) .count
+        ≤ slots
     go true f a more = omega arith
     go false f (AnswerRecord.Answer x v) more = more x v (omega (arith, eqb-false (e .count) slots f))
     go false f AnswerRecord.Malformed more = omega arith
@@ -56,7 +58,8 @@ pub entries-few : (text : List ℕ) → entriesOf text .count ≤ slots
 unfolding entriesOf recordsRead refused opened
 entries-few text = go (ltb longestText (length text)) (recordsOf text)
   where
-    read : (o : OpeningRecord) (rs : List (List ℕ)) → (elim o as (λ x. Entries) [ OpeningRecord.Opened a ↦ answersFrom (opened a) rs | OpeningRecord.Malformed ↦ refused 12 1 ]) .count ≤ slots
+    read : (o : OpeningRecord) (rs : List (List ℕ))
+        → (elim o as (λ x. Entries) [ OpeningRecord.Opened a ↦ answersFrom (opened a) rs | OpeningRecord.Malformed ↦ refused 12 1 ]) .count ≤ slots
     read (OpeningRecord.Opened a) rs = answers-few (opened a) rs (omega arith)
     read OpeningRecord.Malformed rs = omega arith
 
