@@ -73,14 +73,14 @@ refusal-stage o journal a = go (stopOf o journal) refl
 -- ---- what is known of a journal that answers have made
 
 -- each answer after the second came while the search went on, with the next point and a value in range
-pub record Next (o : Opening) (k : Bracket) (a : Answer) : Type 0 where
+pub record Following (o : Opening) (k : Bracket) (a : Answer) : Type 0 where
   pub going : stoppedOf o k ≡ false
   pub called : a .point ≡ pos (nextOf o k)
   pub ranged : natAbs (a .value) ≤ largestValue
 
 abbrev pub Onward : Opening → Bracket → List Answer → Type 0
 Onward o k [] = Unit {0}
-Onward o k (a ∷ rest) = Next o k a × Onward o (advanceOf k (sampleOf a)) rest
+Onward o k (a ∷ rest) = Following o k a × Onward o (advanceOf k (sampleOf a)) rest
 
 -- the first two: at x0 and x1, with values in range
 pub record At (x : ℕ) (a : Answer) : Type 0 where
@@ -116,7 +116,8 @@ fine o journal a t =
     go false e true f false g false h i =
         record { going = e; called = eqZ-true _ _ f; ranged = ltb-false largestValue (natAbs (a .value)) g; crossing = h }
 
-onward-more : (o : Opening) (k : Bracket) (rest : List Answer) (a : Answer) → Onward o k rest → Next o (advancedBy k rest) a → Onward o k (rest ++ (a ∷ []))
+onward-more : (o : Opening) (k : Bracket) (rest : List Answer) (a : Answer) → Onward o k rest → Following o (advancedBy k rest) a
+    → Onward o k (rest ++ (a ∷ []))
 onward-more o k [] a w n = (n, tt)
 onward-more o k (x ∷ rest) a w n = (w .0, onward-more o (advanceOf k (sampleOf x)) rest a (w .1) n)
 
@@ -152,7 +153,7 @@ second-taken o a b p q d =
     take-passes o (Progress.First (a .value)) (b .value) refl refl (q .ranged) d
     ∙ ap₂ (λ (s t : Sample). Progress.Bracketed (startOf s t)) (sym (sample-is a (firstOf o) (p .called))) (sym (sample-is b (secondOf o) (q .called)))
 
-pub next-taken : (o : Opening) (k : Bracket) (a : Answer) → Next o k a
+pub next-taken : (o : Opening) (k : Bracket) (a : Answer) → Following o k a
     → takeOf o (Progress.Bracketed k) (a .value) ≡ Progress.Bracketed (advanceOf k (sampleOf a))
 next-taken o k a n =
     take-passes o (Progress.Bracketed k) (a .value) refl (n .going) (n .ranged) refl
@@ -228,11 +229,11 @@ module _ (o : Opening) (accepted : Accepted o) (journal : List Answer) (kept : K
 
 module _ (o : Opening) (op : Opened o) where
   -- the bracket after an answer
-  pub step-sound : (k : Bracket) (a : Answer) → Sound o k → Next o k a → Sound o (advanceOf k (sampleOf a))
+  pub step-sound : (k : Bracket) (a : Answer) → Sound o k → Following o k a → Sound o (advanceOf k (sampleOf a))
   step-sound k a s n =
       subst (λ (x : Sample). Sound o (advanceOf k x)) (sym (sample-is a (nextOf o k) (n .called))) (sound-advance o k (a .value) op s (n .going) (n .ranged))
 
-  step-inside : (k : Bracket) (a : Answer) → Sound o k → Next o k a → Inside k (advanceOf k (sampleOf a))
+  step-inside : (k : Bracket) (a : Answer) → Sound o k → Following o k a → Inside k (advanceOf k (sampleOf a))
   step-inside k a s n =
       subst (λ (x : Sample). Inside k (advanceOf k x)) (sym (sample-is a (nextOf o k) (n .called))) (advanced o k (a .value) op s (n .going) .inside)
 

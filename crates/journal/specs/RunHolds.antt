@@ -6,6 +6,7 @@ use mathlib.Core.Path.{_≡_, refl, ap, _∙_}
 use mathlib.Core.Logic.{_↔_}
 use mathlib.Core.List.{List, [], _∷_, map}
 use borrow.Author.Tests.{eq-eqb}
+use native.Mathlib.Omega.{arith}
 use lib.ListN.{take}
 use Rattle.rules.specs.declared.Opening.{Opening}
 use Rattle.rules.specs.declared.Report.{Report}
@@ -87,8 +88,8 @@ run o accepted calls =
     record {
       reports = reports-from o accepted [] calls tt;
       search = search-from o accepted [] calls tt;
-      before-stop = λ i. fewer-answers o accepted (journalAt o calls i) (kept i);
-      at-most = λ i. at-most-answers o accepted (journalAt o calls i) (kept i);
+      before-stop = λ i s. omega (arith, fewer-answers o accepted (journalAt o calls i) (kept i) s);
+      at-most = λ i. omega (arith, at-most-answers o accepted (journalAt o calls i) (kept i));
       nested = kept-nested o (opened o accepted) (journalOf o calls) (kept-run o accepted calls);
       opposed = kept-opposed o (opened o accepted) (journalOf o calls) (kept-run o accepted calls);
       over-held = λ i. held-at o accepted (take i calls);

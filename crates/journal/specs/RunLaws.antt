@@ -206,20 +206,20 @@ settled-stage e (x ∷ []) = refl
 settled-stage e (x ∷ y ∷ rest) = refl
 
 module _ (o : Opening) (accepted : Accepted o) (journal : List Answer) (kept : Kept o journal) where
-  abbrev entered : Entries
-  entered = filled o (points journal) (values journal)
+  abbrev journalEntries : Entries
+  journalEntries = filled o (points journal) (values journal)
 
-  leads-to : leadsTo entered ≡ stageOf journal
+  leads-to : leadsTo journalEntries ≡ stageOf journal
   leads-to =
       let m : length (values journal) ≡ length (points journal) = length-map journal answerValue ∙ sym (length-map journal Answers.answerPoint) in
       ap₂ (answersOf o Progress.Begun) (take-at (points journal) _ _ refl) (take-at (values journal) _ _ m)
       ∙ answers-kept o journal kept
 
-  pub report-sheet : (text : List ℕ) → entriesOf text ≡ entered → sheetOf text .report ≡ journalReport o journal
+  pub report-sheet : (text : List ℕ) → entriesOf text ≡ journalEntries → sheetOf text .report ≡ journalReport o journal
   report-sheet text e =
       ap (λ (r : Entered). r .report)
-      (sym (sheet-read text entered (sym e) refl) ∙ sym (outcome-accepted entered (accepted .accepted)) ∙ ap (settledAs entered) leads-to)
-      ∙ settled-stage entered journal
+      (sym (sheet-read text journalEntries (sym e) refl) ∙ sym (outcome-accepted journalEntries (accepted .accepted)) ∙ ap (settledAs journalEntries) leads-to)
+      ∙ settled-stage journalEntries journal
       ∙ sym (report-stage o accepted journal kept)
 
 -- ---- the numbers of a journal are short enough to be spelled

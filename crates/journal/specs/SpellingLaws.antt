@@ -45,8 +45,8 @@ digits-value (Digits.one d h) = omega arith
 digits-value (Digits.more {s} r d h) = omega (arith, value-last 0 s (digit d), digits-value r)
 
 pub numeral-read : {f : List ℕ} {z : ℤ} → Numeral f z → numberOf f ≡ Number.Is z
-numeral-read (Numeral.plain {s} r h) = cc (digits-read s (numeral s (some-digit r) h (all-digits r)), digits-value r)
-numeral-read (Numeral.negated {s} r h) = cc (minus-read s (numeral s (some-digit r) h (all-digits r)), digits-value r)
+numeral-read (Numeral.plain {s} r h) = cc (digits-read s (numeral s (some-digit r) (omega arith) (all-digits r)), digits-value r)
+numeral-read (Numeral.negated {s} r h) = cc (minus-read s (numeral s (some-digit r) (omega arith) (all-digits r)), digits-value r)
 
 -- ---- and what is read as a number is its numeral
 
@@ -62,7 +62,7 @@ digits-after {s} {n} (b ∷ t) r e =
     let h = digits-head b t e in
     let d = digit-is b (h .0) in
     let m : Digits (s ++ b ∷ []) (n * 10 + (b - 48)) =
-    subst (λ (c : ℕ). Digits (s ++ c ∷ []) (n * 10 + (b - 48))) (d .0) (Digits.more r (b - 48) (d .1)) in
+    subst (λ (c : ℕ). Digits (s ++ c ∷ []) (n * 10 + (b - 48))) (d .0) (Digits.more r (b - 48) (omega (arith, d .1))) in
     subst (λ (u : List ℕ). Digits u (valueFrom (n * 10 + (b - 48)) t)) (append-snoc s b t) (digits-after t m (h .1))
 
 digits-of-value : (s : List ℕ) → IsNumeral s → Digits s (valueOf s)
@@ -72,11 +72,11 @@ digits-of-value (b ∷ t) n =
     let h = digits-head b t (n .digits) in
     let d = digit-is b (h .0) in
     let z : b - 48 ≡ 0 * 10 + (b - 48) = omega arith in
-    digits-after t (subst₂ (λ (c k : ℕ). Digits (c ∷ []) k) (d .0) z (Digits.one (b - 48) (d .1))) (h .1)
+    digits-after t (subst₂ (λ (c k : ℕ). Digits (c ∷ []) k) (d .0) z (Digits.one (b - 48) (omega (arith, d .1)))) (h .1)
 
 number-numeral : {f : List ℕ} {z : ℤ} → NumberText f z → Numeral f z
-number-numeral (NumberText.plain {s} n) = Numeral.plain (digits-of-value s n) (n .few)
-number-numeral (NumberText.negated {s} n) = Numeral.negated (digits-of-value s n) (n .few)
+number-numeral (NumberText.plain {s} n) = Numeral.plain (digits-of-value s n) (omega (arith, n .few))
+number-numeral (NumberText.negated {s} n) = Numeral.negated (digits-of-value s n) (omega (arith, n .few))
 
 pub read-numeral : {f : List ℕ} {z : ℤ} → numberOf f ≡ Number.Is z → Numeral f z
 read-numeral {f} {z} e = number-numeral (number-text f z e)
