@@ -58,7 +58,7 @@ fn told(opening: Opening, count: u32, held: &[i32], points: &[i32], values: &[i3
 }
 
 // Whether a report is a refusal.
-fn is_refusal(r: Report) -> bool
+pub fn is_refusal(r: Report) -> bool
     ensures { λ b. ⌜ b ≡ isRefusal r ⌝ }
 {
     match r {

@@ -16,7 +16,7 @@ use Rattle.held.specs.Held.{blank}
 use Rattle.forms.specs.Text.{recordsOf, fieldsOf}
 use Rattle.forms.specs.Number.{allDigits, valueFrom, signedOf, numberOf}
 use Rattle.forms.specs.Entries.{answerOf, openingOf, refused, opened, entered, answersFrom, recordsRead, entriesOf}
-use Rattle.forms.specs.Examples.{bytes, upTo100, below}
+use Rattle.forms.specs.Examples.{bytes, upTo100, negative}
 use Rattle.outcomes.specs.Sheet.{outcomeOf, sheetOf}
 
 record Example : Type 0 where
@@ -35,7 +35,7 @@ abbrev examples : List Example
 examples =
     -- no answer, and document 01's sheet to its stop
     held "1,0,100,1\r\n" 0 [] (Report.Next 0 0)
-    ∷ held "1,0,100,1\r\n0,-50\r\n100,100\r\n33,-10\r\n41,-2\r\n43,1\r\n" 5 (below 50 ∷ pos 100 ∷ below 10 ∷ below 2 ∷ pos 1 ∷ [])
+    ∷ held "1,0,100,1\r\n0,-50\r\n100,100\r\n33,-10\r\n41,-2\r\n43,1\r\n" 5 (negative 50 ∷ pos 100 ∷ negative 10 ∷ negative 2 ∷ pos 1 ∷ [])
     (Report.Stop 41 43 43 5)
     -- with 42,1 last
     ∷ refuses "1,0,100,1\r\n0,-50\r\n100,100\r\n33,-10\r\n41,-2\r\n42,1\r\n" 6 6

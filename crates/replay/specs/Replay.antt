@@ -1,14 +1,21 @@
--- A run of calls written down in lists: which calls they are, and the numbers that their reports are written as.
+-- A run of calls written down in lists, and what `replay` promises of it, in the words of the trial book.
 -- Assumes nothing.
 use Prim.Native.Nat.{ℕ, zero, suc, _*_, _/_}
-use mathlib.Core.Bool.{true, false, cond}
-use mathlib.Core.List.{List, [], _∷_, _++_}
+use mathlib.Core.Path.{_≡_}
+use mathlib.Core.Bool.{cond}
+use mathlib.Core.List.{List, [], _∷_, _++_, map}
 use lib.Dec.{eqb}
 use lib.IntN.{ℤ}
 use lib.ListN.{length, drop}
+use Rattle.rules.specs.declared.Opening.{Opening}
 use Rattle.rules.specs.declared.Report.{Report}
+use Rattle.rules.specs.Refusals.{openingRefusal, Accepted}
+use Rattle.rules.specs.Rows.{rowOf, rowNumbers}
+use Rattle.held.specs.Held.{blank}
 use Rattle.journal.specs.Answers.{Answer}
-use Rattle.journal.specs.Run.{Call, byValue, into}
+use Rattle.journal.specs.Journal.{journalReport, toldAll}
+use Rattle.journal.specs.Run.{Call, byValue, into, offered, journalOf, holding, Run}
+use Rattle.replay.specs.declared.Replayed.{Replayed}
 
 -- ---- the calls
 
@@ -24,23 +31,43 @@ callsUpTo (suc n) (k ∷ ks) [] vs = []
 callsUpTo (suc n) (k ∷ ks) (x ∷ xs) [] = []
 callsUpTo (suc n) (k ∷ ks) (x ∷ xs) (v ∷ vs) = callWith k (record { point = x; value = v }) ∷ callsUpTo n ks xs vs
 
--- the calls of a run whose reports go to a buffer: as many as it has room for, at five numbers each
+-- a report is written as the numbers of its row
+abbrev pub numbersEach : ℕ
+numbersEach = 8
+
+-- as many calls as the lent list has room for their reports
 abbrev pub callsIn : List ℕ → List ℤ → List ℤ → List ℕ → List Call
-callsIn ks xs vs buffer = callsUpTo (length buffer / 5) ks xs vs
+callsIn ks xs vs list = callsUpTo (length list / numbersEach) ks xs vs
 
 -- ---- the reports
 
--- a report as five numbers: what it is, then its own, then 0
-unfoldable pub codeOf : Report → List ℕ
-codeOf (Report.Next point taken) = 1 ∷ point ∷ taken ∷ 0 ∷ 0 ∷ []
-codeOf (Report.Stop lower upper better taken) = 2 ∷ lower ∷ upper ∷ better ∷ taken ∷ []
-codeOf (Report.Refused number place) = 3 ∷ number ∷ place ∷ 0 ∷ 0 ∷ []
+-- the rows of each, one after the other
+unfoldable pub rowsOf : List Report → List ℕ
+rowsOf [] = []
+rowsOf (r ∷ rs) = rowNumbers (rowOf r) ++ rowsOf rs
 
--- those of each, one after the other
-unfoldable pub codes : List Report → List ℕ
-codes [] = []
-codes (r ∷ rs) = codeOf r ++ codes rs
-
--- they stand at the beginning of the buffer, whose further numbers keep their contents
+-- they stand at the beginning of the list, whose further numbers keep their contents
 abbrev pub writtenOver : List Report → List ℕ → List ℕ
-writtenOver rs buffer = codes rs ++ drop (5 * length rs) buffer
+writtenOver rs list = rowsOf rs ++ drop (numbersEach * length rs) list
+
+-- ---- what is promised
+
+-- An accepted opening: the book's report before the first answer, and the search that holds the book's values after the calls.
+-- A refused one makes no fresh search: its first refusal, beside a blank.
+unfoldable pub replayOf : Opening → List Call → Replayed
+replayOf o calls =
+    cond (eqb (openingRefusal o) 0)
+    (record { opened = journalReport o []; search = holding o (journalOf o calls) })
+    (record { opened = Report.Refused (openingRefusal o) 0; search = blank })
+
+-- An accepted opening: the lent list holds what the book answers to each call in turn. A refused one: no call is made, and the list
+-- stays as it is.
+unfoldable pub listAfter : Opening → List Call → List ℕ → List ℕ
+listAfter o calls list =
+    cond (eqb (openingRefusal o) 0) (writtenOver (toldAll o [] (map offered calls)) list) list
+
+-- r is what `replay` returns, and the list, which held `before`, holds `after`. All that demand 3 says of runs holds of this one
+pub record Replays (o : Opening) (ks : List ℕ) (xs vs : List ℤ) (before : List ℕ) (r : Replayed) (after : List ℕ) : Type 0 where
+  pub returned : r ≡ replayOf o (callsIn ks xs vs before)
+  pub written : after ≡ listAfter o (callsIn ks xs vs before) before
+  pub run : Accepted o → Run o (callsIn ks xs vs before)

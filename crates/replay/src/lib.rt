@@ -1,20 +1,30 @@
-// A run of calls of both kinds, made for real: what they answer and the search that they leave are those of the claim about whole runs.
+// A run of calls of both kinds, made for real: what they report and the search that they leave are those of the claim about whole runs.
 ghost use mathlib.Core.Path.{_≡_};
-ghost use mathlib.Core.List.{[], _∷_, map};
-ghost use Prim.Native.Nat.{_+_, _≤_, min};
+ghost use Prim.Native.Nat.{_+_, _*_, _≤_, min};
 ghost use lib.ListN.{length};
 ghost use lib.Seq.{sets};
-ghost use Rattle.rules.specs.Refusals.{Accepted};
-ghost use Rattle.held.specs.Held.{openOf, enterOf};
-ghost use Rattle.journal.specs.Journal.{toldAll};
-ghost use Rattle.journal.specs.Run.{offered, reportsOf, searchAfter, journalOf, holding};
-ghost use Rattle.replay.specs.Replay.{callsIn, codeOf, writtenOver};
+ghost use Rattle.rules.specs.Rows.{rowNumbers};
+ghost use Rattle.held.specs.Held.{enterOf};
+ghost use Rattle.replay.specs.Replay.{numbersEach, Replays};
+ghost use Rattle.replay.specs.Calls.{shortest, Before, CallMade, CallsMade};
 use held::Entered;
 use held::Search;
 use rules::Opening;
 use rules::Report;
+use rules::Row;
 
-// One call: by value, or into a search that is lent.
+// The numbers that a report is written as: those of a row.
+pub const NUMBERS_EACH: usize = 8;
+
+// What a run tells: of the opening, its first point or its refusal; and the search after the calls.
+pub struct Replayed {
+    pub opened: Report,
+    pub search: Search,
+}
+
+// ---- one call
+
+// By value, or into a search that is lent.
 fn call(kind: u8, search: Search, point: i32, value: i32) -> Entered
     ensures { λ r. ⌜ r ≡ enterOf search point value ⌝ }
 {
@@ -25,34 +35,40 @@ fn call(kind: u8, search: Search, point: i32, value: i32) -> Entered
     }
 }
 
-// Five numbers, from a place on.
-fn put_five(reports: &mut [u32], at: usize, a: u32, b: u32, c: u32, d: u32, e: u32)
-    requires { ⌜ at + 5 ≤ length (now reports) ⌝ }
-    ensures { λ _. ⌜ now (reports .exit) ≡ sets (now (reports .entry)) at (a ∷ b ∷ c ∷ d ∷ e ∷ []) ⌝ }
+// The numbers of a row, from a place on.
+fn put_row(rows: &mut [u32], at: usize, row: Row)
+    requires { ⌜ at + numbersEach ≤ length (now rows) ⌝ }
+    ensures { λ _. ⌜ now (rows .exit) ≡ sets (now (rows .entry)) at (rowNumbers row) ⌝ }
 {
-    reports[at] = a;
-    reports[at + 1] = b;
-    reports[at + 2] = c;
-    reports[at + 3] = d;
-    reports[at + 4] = e;
+    rows[at] = row.kind;
+    rows[at + 1] = row.point;
+    rows[at + 2] = row.lower;
+    rows[at + 3] = row.upper;
+    rows[at + 4] = row.better;
+    rows[at + 5] = row.taken;
+    rows[at + 6] = row.number;
+    rows[at + 7] = row.place;
 }
 
-// The five numbers of a report, from a place on.
-fn put_report(reports: &mut [u32], at: usize, report: Report)
-    requires { ⌜ at + 5 ≤ length (now reports) ⌝ }
-    ensures { λ _. ⌜ now (reports .exit) ≡ sets (now (reports .entry)) at (codeOf report) ⌝ }
+// The call at a place of the lists, and its report in its place among the rows.
+fn call_at(
+    i: usize,
+    search: Search,
+    kinds: &[u8],
+    points: &[i32],
+    values: &[i32],
+    rows: &mut [u32],
+) -> Search
+    requires { ⌜ Before i (now kinds) (now points) (now values) (now rows) ⌝ }
+    ensures { λ r. ⌜ CallMade i search (now (kinds .entry)) (now (points .entry)) (now (values .entry)) (now (rows .entry)) r (now (rows .exit)) ⌝ }
 {
-    match report {
-        Report::Next { point, taken } => put_five(reports, at, 1, point, taken, 0, 0),
-        Report::Stop {
-            lower,
-            upper,
-            better,
-            taken,
-        } => put_five(reports, at, 2, lower, upper, better, taken),
-        Report::Refused { number, place } => put_five(reports, at, 3, number, place, 0, 0),
-    }
+    let next = call(kinds[i], search, points[i], values[i]);
+    let report = next.report;
+    put_row(rows, NUMBERS_EACH * i, printing::row_of(report));
+    next.search
 }
+
+// ---- the run
 
 // The lesser of two numbers.
 fn lesser(a: usize, b: usize) -> usize
@@ -61,37 +77,58 @@ fn lesser(a: usize, b: usize) -> usize
     if a < b { a } else { b }
 }
 
-// A fresh search of the opening, and then as many calls as the shortest of kinds, points and values allows, each to the search that
-// the one before returned or left: kind 0 by value, any other into the search. The five numbers of each report are written to
-// `reports` in turn. A short `reports` ends the run early, before the first call whose report has no room; its further numbers keep
-// their contents.
-// For an accepted opening the reports and the search are the trial book's. A refused one makes no fresh search: the calls are made to
-// the blank, which refuses each.
+// How many calls there are: as far as all three lists go, and as far as there is room for the rows.
+fn number_of_calls(kinds: &[u8], points: &[i32], values: &[i32], rows: &[u32]) -> usize
+    ensures { λ r. ⌜ r ≡ shortest (now (kinds .entry)) (now (points .entry)) (now (values .entry)) (now (rows .entry)) ⌝ }
+{
+    lesser(
+        lesser(rows.len() / NUMBERS_EACH, kinds.len()),
+        lesser(points.len(), values.len()),
+    )
+}
+
+// Each call in turn, to the search that the one before returned or left.
+fn make_calls(
+    begun: Search,
+    kinds: &[u8],
+    points: &[i32],
+    values: &[i32],
+    rows: &mut [u32],
+) -> Search
+    ensures { λ r. ⌜ CallsMade begun (now (kinds .entry)) (now (points .entry)) (now (values .entry)) (now (rows .entry)) r (now (rows .exit)) ⌝ }
+{
+    let n = number_of_calls(kinds, points, values, rows);
+    let mut search = begun;
+    let mut i = 0;
+    while i < n {
+        search = call_at(i, search, kinds, points, values, rows);
+        i += 1;
+    }
+    search
+}
+
+// A fresh search of the opening, and then as many calls as the shortest of kinds, points and values allows: kind 0 by value, any other
+// into the search. The numbers of each report are written to `rows` in turn; a short `rows` ends the run early, before the first call
+// whose report has no room, and its further numbers keep their contents.
+// A refused opening makes no fresh search: its refusal is told beside a blank, no call is made, and `rows` keeps its contents.
 pub fn replay(
     opening: Opening,
     kinds: &[u8],
     points: &[i32],
     values: &[i32],
-    reports: &mut [u32],
-) -> Search
-    ensures { λ r. ⌜ r ≡ searchAfter (openOf opening .search) (callsIn (now (kinds .entry)) (now (points .entry)) (now (values .entry)) (now (reports .entry))) ⌝ }
-    ensures { λ _. ⌜ now (reports .exit) ≡ writtenOver (reportsOf (openOf opening .search) (callsIn (now (kinds .entry)) (now (points .entry)) (now (values .entry)) (now (reports .entry)))) (now (reports .entry)) ⌝ }
-    ensures { λ r. ⌜ (Accepted opening → r ≡ holding opening (journalOf opening (callsIn (now (kinds .entry)) (now (points .entry)) (now (values .entry)) (now (reports .entry))))) ⌝ }
-    ensures { λ _. ⌜ (Accepted opening → now (reports .exit) ≡ writtenOver (toldAll opening [] (map offered (callsIn (now (kinds .entry)) (now (points .entry)) (now (values .entry)) (now (reports .entry))))) (now (reports .entry))) ⌝ }
+    rows: &mut [u32],
+) -> Replayed
+    ensures { λ r. ⌜ Replays opening (now (kinds .entry)) (now (points .entry)) (now (values .entry)) (now (rows .entry)) r (now (rows .exit)) ⌝ }
 {
-    let n = lesser(
-        lesser(reports.len() / 5, kinds.len()),
-        lesser(points.len(), values.len()),
-    );
-    let mut last = Search::fresh(opening);
-    let mut i = 0;
-    while i < n {
-        let search = last.search;
-        let next = call(kinds[i], search, points[i], values[i]);
-        let report = next.report;
-        put_report(reports, 5 * i, report);
-        last = next;
-        i += 1;
+    let begun = Search::fresh(opening);
+    let opened = begun.report;
+    let fresh = begun.search;
+    if held::is_refusal(opened) {
+        return Replayed {
+            opened,
+            search: fresh,
+        };
     }
-    last.search
+    let search = make_calls(fresh, kinds, points, values, rows);
+    Replayed { opened, search }
 }

@@ -1,0 +1,172 @@
+-- The laws of a run written down in lists: its calls and its rows one by one, and what the loop keeps.
+-- Assumes nothing.
+use Prim.Native.Nat.{ℕ, zero, suc, _+_, _*_, _-_, _/_, _≤_, _<_, min}
+use mathlib.Core.Path.{_≡_, refl, sym, ap, _∙_}
+use mathlib.Core.Bool.{Bool, true, false, cond}
+use mathlib.Core.List.{List, [], _∷_, _++_}
+use native.Mathlib.Nat.{sub-zero, sub-eq-zero-of-le, zero-add}
+use native.Mathlib.Numerals.{add-one}
+use native.Mathlib.Omega.{arith}
+use lib.Dec.{eqb}
+use lib.IntN.{ℤ, pos}
+use lib.ListN.{length, drop, getD, set, length-append, length-drop}
+use lib.Seq.{sets, sets-eq, length-sets, drop-cons}
+use Rattle.rules.specs.declared.Report.{Report}
+use Rattle.rules.specs.declared.Row.{Row}
+use Rattle.rules.specs.Rows.{rowOf, rowNumbers}
+use Rattle.held.specs.declared.Search.{Search}
+use Rattle.held.specs.declared.Entered.{Entered}
+use Rattle.held.specs.Held.{enterOf}
+use Rattle.journal.specs.Answers.{Answer}
+use Rattle.journal.specs.Run.{Call, byValue, into, callOf, reportsOf, searchAfter}
+use Rattle.replay.specs.Replay.{callWith, callsUpTo, numbersEach, callsIn, rowsOf, writtenOver}
+use Rattle.replay.specs.Calls.{shortest, callAt, Before, CallMade, CallsMade}
+
+-- ---- the calls one by one
+
+-- a call does the same by either kind
+pub call-either : (k : ℕ) (s : Search) (a : Answer) → callOf s (callWith k a) ≡ enterOf s (a .point) (a .value)
+call-either k s a = go (eqb k 0)
+  where
+    go : (b : Bool) → callOf s (cond b (byValue a) (into a)) ≡ enterOf s (a .point) (a .value)
+    go true = refl
+    go false = refl
+
+-- none where the bound or a list is at its end
+no-calls : (n : ℕ) (ks : List ℕ) (xs vs : List ℤ) → min (min n (length ks)) (min (length xs) (length vs)) ≡ 0 → callsUpTo n ks xs vs ≡ []
+unfolding callsUpTo
+no-calls zero ks xs vs e = refl
+no-calls (suc n) [] xs vs e = refl
+no-calls (suc n) (k ∷ ks) [] vs e = refl
+no-calls (suc n) (k ∷ ks) (x ∷ xs) [] e = refl
+no-calls (suc n) (k ∷ ks) (x ∷ xs) (v ∷ vs) e = absurd (omega arith)
+
+calls-few : (n : ℕ) (ks : List ℕ) (xs vs : List ℤ) → length (callsUpTo n ks xs vs) ≤ n
+unfolding callsUpTo
+calls-few zero ks xs vs = omega arith
+calls-few (suc n) [] xs vs = omega arith
+calls-few (suc n) (k ∷ ks) [] vs = omega arith
+calls-few (suc n) (k ∷ ks) (x ∷ xs) [] = omega arith
+calls-few (suc n) (k ∷ ks) (x ∷ xs) (v ∷ vs) = omega (arith, calls-few n ks xs vs)
+
+-- ---- the rows one by one
+
+pub row-stored : (l : List ℕ) (at a b c d e f g h : ℕ)
+    → set (set (set (set (set (set (set (set l at a) (at + 1) b) (at + 2) c) (at + 3) d) (at + 4) e) (at + 5) f) (at + 6) g) (at + 7) h
+    ≡ sets l at (a ∷ b ∷ c ∷ d ∷ e ∷ f ∷ g ∷ h ∷ [])
+row-stored l at a b c d e f g h =
+    let two : at + 2 ≡ suc (suc at) = omega arith in
+    let three : at + 3 ≡ suc (suc (suc at)) = omega arith in
+    let four : at + 4 ≡ suc (suc (suc (suc at))) = omega arith in
+    let five : at + 5 ≡ suc (suc (suc (suc (suc at)))) = omega arith in
+    let six : at + 6 ≡ suc (suc (suc (suc (suc (suc at))))) = omega arith in
+    let seven : at + 7 ≡ suc (suc (suc (suc (suc (suc (suc at)))))) = omega arith in
+    rw (add-one at, two, three, four, five, six, seven)
+
+row-length : (r : Report) → length (rowNumbers (rowOf r)) ≡ numbersEach
+row-length r = refl
+
+rows-length : (rs : List Report) → length (rowsOf rs) ≡ numbersEach * length rs
+unfolding rowsOf
+rows-length [] = refl
+rows-length (r ∷ rs) = omega (arith, length-append (rowNumbers (rowOf r)) (rowsOf rs), rows-length rs)
+
+sets-append : (us vs l : List ℕ) (at : ℕ) → sets l at (us ++ vs) ≡ sets (sets l at us) (at + length us) vs
+sets-append [] vs l at = let e : at + 0 ≡ at = omega arith in rw e
+sets-append (u ∷ us) vs l at =
+    let e : at + length (u ∷ us) ≡ suc at + length us = omega arith in
+    rw e (sets-append us vs (set l at u) (suc at))
+
+reports-length : (s : Search) (calls : List Call) → length (reportsOf s calls) ≡ length calls
+unfolding reportsOf
+reports-length s [] = refl
+reports-length s (c ∷ calls) = ap suc (reports-length (callOf s c .search) calls)
+
+-- one call made: e is what it answers and leaves, w the row of its report
+pub call-made : (i : ℕ) (s : Search) (ks : List ℕ) (xs vs : List ℤ) (before : List ℕ) {e : Entered} {w : Row} {after : List ℕ}
+    → e ≡ enterOf s (getD xs i (pos 0)) (getD vs i (pos 0)) → w ≡ rowOf (e .report) → after ≡ sets before (numbersEach * i) (rowNumbers w)
+    → CallMade i s ks xs vs before (e .search) after
+call-made i s ks xs vs before {e} {w} {after} f g h =
+    let same = f ∙ sym (call-either (getD ks i 0) s (record { point = getD xs i (pos 0); value = getD vs i (pos 0) })) in
+    record {
+      left = ap (λ (x : Entered). x .search) same;
+      written =
+          h
+          ∙ ap (λ (y : Row). sets before (numbersEach * i) (rowNumbers y)) (g ∙ ap (λ (x : Entered). rowOf (x .report)) same);
+    }
+
+-- ---- the run so far
+
+sub-min : (a b i : ℕ) → min (a - i) (b - i) ≡ min a b - i
+sub-min a b i = omega arith
+
+-- the calls that are left after i of at most n
+abbrev leftOf : ℕ → List ℕ → List ℤ → List ℤ → ℕ → List Call
+leftOf n ks xs vs i = callsUpTo (n - i) (drop i ks) (drop i xs) (drop i vs)
+
+-- i calls, of the lists and from s₀ on, have led to the search s and the list `after`: what all of them leave and write is what the
+-- others do from here
+pub record Made (s₀ : Search) (ks : List ℕ) (xs vs : List ℤ) (before : List ℕ) (i : ℕ) (s : Search) (after : List ℕ) : Type 0 where
+  pub same : length after ≡ length before
+  pub onward : searchAfter s₀ (callsIn ks xs vs before) ≡ searchAfter s (leftOf (length before / numbersEach) ks xs vs i)
+  pub written : sets before 0 (rowsOf (reportsOf s₀ (callsIn ks xs vs before)))
+      ≡ sets after (numbersEach * i) (rowsOf (reportsOf s (leftOf (length before / numbersEach) ks xs vs i)))
+
+module _ (s₀ : Search) (ks : List ℕ) (xs vs : List ℤ) (before : List ℕ) where
+  abbrev n : ℕ
+  n = length before / numbersEach
+
+  pub made-none : Made s₀ ks xs vs before 0 s₀ before
+  made-none = record { same = refl; onward = rw (sub-zero n); written = rw (sub-zero n) }
+
+  left-more : (i : ℕ) → i < shortest ks xs vs before → leftOf n ks xs vs i ≡ callAt ks xs vs i ∷ leftOf n ks xs vs (i + 1)
+  unfolding callsUpTo
+  left-more i h =
+      let e : n - i ≡ suc (n - (i + 1)) = omega arith in
+      rw (e, drop-cons ks i 0 (omega arith), drop-cons xs i (pos 0) (omega arith), drop-cons vs i (pos 0) (omega arith), add-one i)
+
+  none-left : (i : ℕ) → shortest ks xs vs before ≤ i → leftOf n ks xs vs i ≡ []
+  none-left i h =
+      let lists = min (length xs) (length vs) in
+      no-calls (n - i) (drop i ks) (drop i xs) (drop i vs)
+      (rw (length-drop i ks, length-drop i xs, length-drop i vs, sub-min n (length ks) i, sub-min (length xs) (length vs) i, sub-min (min n (length ks)) lists i)
+      (sub-eq-zero-of-le h))
+
+  -- of m calls, which are all
+  module _ {i m : ℕ} {s : Search} {list : List ℕ} (made : Made s₀ ks xs vs before i s list) (number : m ≡ shortest ks xs vs before) where
+    pub one-before : i < m → Before i ks xs vs list
+    one-before h = record { kind = omega arith; point = omega arith; value = omega arith; room = omega (arith, made .same) }
+
+    pub made-more : i < m → {r : Search} {after : List ℕ} → CallMade i s ks xs vs list r after → Made s₀ ks xs vs before (i + 1) r after
+    unfolding searchAfter reportsOf rowsOf
+    made-more h {r} {after} one =
+        let c = callOf s (callAt ks xs vs i) in
+        let row = rowNumbers (rowOf (c .report)) in
+        let left = leftOf n ks xs vs (i + 1) in
+        let more = left-more i (omega arith) in
+        let next : numbersEach * i + length row ≡ numbersEach * (i + 1) = omega (arith, row-length (c .report)) in
+        rw (one .left, one .written)
+        (record {
+          same = length-sets list (numbersEach * i) row ∙ made .same;
+          onward = made .onward ∙ ap (searchAfter s) more;
+          written =
+              made .written
+              ∙ ap (λ (calls : List Call). sets list (numbersEach * i) (rowsOf (reportsOf s calls))) more
+              ∙ sets-append row (rowsOf (reportsOf (c .search) left)) list (numbersEach * i)
+              ∙ ap (λ (at : ℕ). sets (sets list (numbersEach * i) row) at (rowsOf (reportsOf (c .search) left))) next;
+        })
+
+    pub made-all : m ≤ i → CallsMade s₀ ks xs vs before s list
+    unfolding searchAfter reportsOf rowsOf
+    made-all h =
+        let calls = callsIn ks xs vs before in
+        let rs = reportsOf s₀ calls in
+        let none = none-left i (omega arith) in
+        let fit : 0 + length (rowsOf rs) ≤ length before = omega (arith, rows-length rs, reports-length s₀ calls, calls-few n ks xs vs) in
+        record {
+          left = sym (made .onward ∙ ap (searchAfter s) none);
+          written =
+              sym (made .written ∙ ap (λ (cs : List Call). sets list (numbersEach * i) (rowsOf (reportsOf s cs))) none)
+              ∙ sets-eq (rowsOf rs) before 0 fit
+              ∙ ap (λ (k : ℕ). rowsOf rs ++ drop k before) (zero-add (length (rowsOf rs)) ∙ rows-length rs);
+        }
