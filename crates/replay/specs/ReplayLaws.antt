@@ -8,7 +8,7 @@ use mathlib.Core.List.{List, []}
 use borrow.Author.Tests.{eqb-true, eq-eqb}
 use lib.Dec.{eqb}
 use lib.IntN.{ℤ}
-use Rattle.integers.specs.Signs.{never}
+use Rattle.integers.specs.SignsLaws.{never}
 use Rattle.rules.specs.declared.Opening.{Opening}
 use Rattle.rules.specs.declared.Report.{Report}
 use Rattle.rules.specs.Refusals.{openingRefusal, Accepted}
