@@ -1,8 +1,8 @@
 -- What is read is a sheet: the other way round of ReadingLaws. Every text that is read is a list of rows, a row a list of fields, and
 -- a field the bytes of a number: four fields to the opening, two to each answer, and no more answers than slots.
 -- Assumes nothing.
-use Prim.Native.Nat.{ℕ, suc, _+_, _≤_}
-use mathlib.Core.Path.{_≡_, refl, ap, ap₂, subst, _∙_}
+use Prim.Native.Nat.{ℕ, zero, suc, _+_, _≤_}
+use mathlib.Core.Path.{_≡_, refl, sym, ap, ap₂, subst, _∙_}
 use mathlib.Core.Bool.{Bool, true, false, cond}
 use mathlib.Core.List.{List, [], _∷_, _++_, map, flatten}
 use native.Mathlib.Omega.{arith}
@@ -25,7 +25,7 @@ use Rattle.forms.specs.Entries.{refused, opened, entered, answersFrom, r
 use Rattle.forms.specs.TextLaws.{ended, textOf, records-whole, ended-whole}
 use Rattle.forms.specs.FieldLaws.{joined, fields-whole}
 use Rattle.forms.specs.NumberLaws.{both}
-use Rattle.forms.specs.ReadingLaws.{Spells, SpellsAnswers}
+use Rattle.forms.specs.ReadingLaws.{Spells, openingNumbers, SpellsAnswers}
 
 -- ---- a record that is read is a row
 
@@ -72,19 +72,21 @@ record-read k r make bad a fine = go (wellEnded r) refl (areNumbers k (numbersOf
     go true w false n e = absurd (fine e)
     go false w n f e = absurd (fine e)
 
-two-integers : (ns : List Number) → length ns ≡ 2 → map integerOf ns ≡ integerAt ns 0 ∷ integerAt ns 1 ∷ []
-two-integers [] e = absurd (omega arith)
-two-integers (a ∷ []) e = absurd (omega arith)
-two-integers (a ∷ b ∷ []) e = refl
-two-integers (a ∷ b ∷ c ∷ ns) e = absurd (omega arith)
+-- the integers at k places, from place i on
+abbrev integersFrom : ℕ → ℕ → List Number → List ℤ
+integersFrom i zero ns = []
+integersFrom i (suc k) ns = integerAt ns i ∷ integersFrom (suc i) k ns
 
-four-integers : (ns : List Number) → length ns ≡ 4 → map integerOf ns ≡ integerAt ns 0 ∷ integerAt ns 1 ∷ integerAt ns 2 ∷ integerAt ns 3 ∷ []
-four-integers [] e = absurd (omega arith)
-four-integers (a ∷ []) e = absurd (omega arith)
-four-integers (a ∷ b ∷ []) e = absurd (omega arith)
-four-integers (a ∷ b ∷ c ∷ []) e = absurd (omega arith)
-four-integers (a ∷ b ∷ c ∷ d ∷ []) e = refl
-four-integers (a ∷ b ∷ c ∷ d ∷ x ∷ ns) e = absurd (omega arith)
+integers-later : (n : Number) (ns : List Number) (i k : ℕ) → integersFrom (suc i) k (n ∷ ns) ≡ integersFrom i k ns
+integers-later n ns i zero = refl
+integers-later n ns i (suc k) = ap (λ (zs : List ℤ). integerAt ns i ∷ zs) (integers-later n ns (suc i) k)
+
+all-integers : (k : ℕ) (ns : List Number) → length ns ≡ k → map integerOf ns ≡ integersFrom 0 k ns
+all-integers zero [] e = refl
+all-integers zero (n ∷ ns) e = absurd (omega arith)
+all-integers (suc k) [] e = absurd (omega arith)
+all-integers (suc k) (n ∷ ns) e =
+    ap (λ (zs : List ℤ). integerOf n ∷ zs) (all-integers k ns (omega arith) ∙ sym (integers-later n ns 0 k))
 
 answer-record : (r : List ℕ) (point value : ℤ) → answerOf r ≡ AnswerRecord.Answer point value → RecordText r (point ∷ value ∷ [])
 unfolding answerOf
@@ -94,12 +96,9 @@ answer-record r point value e =
     (λ b. let n : _≡_ {A = ℕ} 0 1 = cc in omega arith) e in
     let m : AnswerRecord.Answer (integerAt ns 0) (integerAt ns 1) ≡ AnswerRecord.Answer point value = d .made in
     let z : integerAt ns 0 ∷ integerAt ns 1 ∷ [] ≡ point ∷ value ∷ [] = cc in
-    subst (RecordText r) (two-integers ns (d .count) ∙ z) (d .text)
+    subst (RecordText r) (all-integers 2 ns (d .count) ∙ z) (d .text)
 
-abbrev fourOf : Opening → List ℤ
-fourOf o = o .method ∷ o .first ∷ o .second ∷ o .tolerance ∷ []
-
-opening-record : (r : List ℕ) (o : Opening) → openingOf r ≡ OpeningRecord.Opened o → RecordText r (fourOf o)
+opening-record : (r : List ℕ) (o : Opening) → openingOf r ≡ OpeningRecord.Opened o → RecordText r (openingNumbers o)
 unfolding openingOf
 opening-record r o e =
     let ns = numbersOf (bodyOf r) in
@@ -107,7 +106,7 @@ opening-record r o e =
     (λ b. let n : _≡_ {A = ℕ} 0 1 = cc in omega arith) e in
     let m : OpeningRecord.Opened (openingWith ns) ≡ OpeningRecord.Opened o = d .made in
     let z : openingWith ns ≡ o = cc in
-    subst (RecordText r) (four-integers ns (d .count) ∙ ap fourOf z) (d .text)
+    subst (RecordText r) (all-integers 4 ns (d .count) ∙ ap openingNumbers z) (d .text)
 
 -- ---- the answers' records are rows
 
@@ -170,12 +169,12 @@ pub record Laid (text : List ℕ) : Type 0 where
   pub rows : List (List (List ℕ))
   pub points : List ℤ
   pub values : List ℤ
-  pub spelled-head : Spells head (fourOf opening)
+  pub spelled-head : Spells head (openingNumbers opening)
   pub spelled-rows : SpellsAnswers rows points values
   pub few : length rows ≤ slots
   pub whole : textOf (map joined (head ∷ rows)) ≡ text
 
-laid : (r : List ℕ) (rs : List (List ℕ)) (o : Opening) → RecordText r (fourOf o) → AnswersTaken (opened o) rs → Laid (flatten (r ∷ rs))
+laid : (r : List ℕ) (rs : List (List ℕ)) (o : Opening) → RecordText r (openingNumbers o) → AnswersTaken (opened o) rs → Laid (flatten (r ∷ rs))
 unfolding flatten opened
 laid r rs o h t =
     record {

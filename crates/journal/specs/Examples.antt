@@ -38,7 +38,7 @@ between lower upper = record { lower = lower; upper = upper }
 abbrev endsOf : Bracket → Ends
 endsOf k = between (lowerOf k) (upperOf k)
 
--- ---- a run by M from 0 to 100 with τ 1, by value and into the host's own search in turn
+-- ---- a run by M from 0 to 100 with τ 1, by value and into the host's own search in a mixture
 
 abbrev calls : List Call
 calls =
@@ -119,7 +119,7 @@ negated-42 = Numeral.negated digits-of-42 (omega arith)
 minus-zero : Numeral (bytes "-0") (pos 0)
 minus-zero = Numeral.negated (Digits.one 0 (omega arith)) (omega arith)
 
--- of one digit, and of two and three
+-- of one digit
 one-digit : (d : ℕ) → d ≤ 9 → Numeral (digit d ∷ []) (pos d)
 one-digit d h = Numeral.plain (Digits.one d h) (omega arith)
 

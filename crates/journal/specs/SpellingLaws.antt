@@ -22,7 +22,7 @@ use Rattle.forms.specs.NumberLaws.{NumberText, number-text}
 use Rattle.forms.specs.TextLaws.{ended, textOf}
 use Rattle.forms.specs.FieldLaws.{joined}
 use Rattle.forms.specs.Entries.{filled, entriesOf}
-use Rattle.forms.specs.ReadingLaws.{Spells, SpellsAnswers, entries-read}
+use Rattle.forms.specs.ReadingLaws.{Spells, openingNumbers, SpellsAnswers, entries-read}
 use Rattle.forms.specs.TakenLaws.{Laid, entries-laid}
 use Rattle.journal.specs.Answers.{Answer, points, values}
 use Rattle.journal.specs.Spelling.{Digits, Numeral, AnswersText, SheetText}
@@ -136,7 +136,7 @@ pub record Spelled (text : List ℕ) : Type 0 where
   pub few : length answers ≤ slots
 
 head-spelled : {head : List (List ℕ)} {t : List ℕ} (o : Opening) {answers : List Answer}
-    → Spells head (o .method ∷ o .first ∷ o .second ∷ o .tolerance ∷ []) → AnswersText t answers → SheetText (ended (joined head) ++ t) o answers
+    → Spells head (openingNumbers o) → AnswersText t answers → SheetText (ended (joined head) ++ t) o answers
 head-spelled o (Spells.more m (Spells.more x (Spells.more y (Spells.more w Spells.none)))) a =
     simp append-assoc (simp append-assoc at (SheetText.sheet {o = o} (read-numeral m) (read-numeral x) (read-numeral y) (read-numeral w) a))
 

@@ -181,6 +181,17 @@ record Cut (b c x q D : ℕ) : Type 0 where
   pub narrower : gapOf x q < gapOf b c
   pub rest : D ≤ gapOf b c / 2 → gapOf x q + D ≤ gapOf b c
 
+-- whichever of the two is the better end
+cut-turned : {b c x q D : ℕ} → Cut b c x q D → Cut b c q x D
+cut-turned h =
+    record {
+      apart = λ f. h .apart (sym f);
+      lower = omega (arith, h .lower);
+      upper = omega (arith, h .upper);
+      narrower = omega (arith, h .narrower);
+      rest = λ k. omega (arith, h .rest k);
+    }
+
 module _ (k : Bracket) (D x : ℕ) (ahead : Ahead k D x) where
   cut-at : (q : ℕ) → (q ≡ k .better .point) ⊎ (q ≡ k .other .point) → Cut (k .better .point) (k .other .point) x q D
   cut-at q (inl e) =
@@ -220,13 +231,14 @@ module _ (k : Bracket) (x : Sample) (D : ℕ) (held : Straddles k) (ahead : Ahea
           }
       go false e =
           let p = partner-is k x held in
-          let c = cut-at k D (x .point) ahead (partnerOf k x .point) (⊎-map (ap (λ (s : Sample). s .point)) (ap (λ (s : Sample). s .point)) (p .end)) in
+          let c = cut-turned
+          (cut-at k D (x .point) ahead (partnerOf k x .point) (⊎-map (ap (λ (s : Sample). s .point)) (ap (λ (s : Sample). s .point)) (p .end))) in
           record {
-            held = record { apart = λ f. c .apart (sym f); ends = inr refl; opposite = opposed-comm _ _ ∙ p .opposite };
+            held = record { apart = c .apart; ends = inr refl; opposite = opposed-comm _ _ ∙ p .opposite };
             closest = le-of-lt (leb-false _ _ e);
-            inside = record { lower = omega (arith, c .lower); upper = omega (arith, c .upper) };
-            narrower = omega (arith, c .narrower);
-            rest = λ h. omega (arith, c .rest h);
+            inside = record { lower = c .lower; upper = c .upper };
+            narrower = c .narrower;
+            rest = c .rest;
             counted = refl;
           }
 
