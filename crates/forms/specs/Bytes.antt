@@ -1,6 +1,6 @@
--- The bytes that a sheet is made of. A text is the list of its bytes.
+-- The bytes that stand in a sheet beside digits. A text is the list of its bytes.
 -- Assumes nothing.
-use Prim.Native.Nat.{ℕ, _+_}
+use Prim.Native.Nat.{ℕ}
 
 -- CR LF ends a record
 abbrev pub cr : ℕ
@@ -15,7 +15,3 @@ comma = 44
 
 abbrev pub minus : ℕ
 minus = 45
-
--- of the digits 0 to 9: 48 to 57
-abbrev pub digit : ℕ → ℕ
-digit d = 48 + d

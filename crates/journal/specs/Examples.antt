@@ -17,10 +17,9 @@ use Rattle.rules.specs.Rules.{rationalOf, doubledOf, opposed, partnerOf, streak
 use Rattle.rules.specs.Refusals.{openingRefusal, answerRefusal, sameSide}
 use Rattle.rules.specs.Search.{turnsOf, mostOf, beginOf, offerOf, takeOf, progressOf, bracketReport, reportAt}
 use Rattle.held.specs.Held.{freshOf, standingOf, heldReport, enterOf}
-use Rattle.forms.specs.Bytes.{digit}
 use Rattle.forms.specs.Examples.{bytes, upTo100, negative}
 use Rattle.journal.specs.Answers.{Answer}
-use Rattle.journal.specs.Spelling.{Digits, Numeral, AnswersText, SheetText}
+use Rattle.journal.specs.Spelling.{digit, Digits, Numeral, AnswersText, SheetText}
 use Rattle.journal.specs.Journal.{stopOf, pointCalled, journalReport, refusalOf, journalWith, toldOf, journalAfter, toldAll, bracketsOf}
 use Rattle.journal.specs.Run.{Call, byValue, into, offered, reportsOf, searchAfter, journalOf}
 

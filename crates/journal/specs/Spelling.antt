@@ -6,10 +6,14 @@ use mathlib.Core.List.{List, [], _∷_, _++_}
 use lib.ListN.{length}
 use lib.IntN.{ℤ, pos, negℤ}
 use Rattle.rules.specs.declared.Opening.{Opening}
-use Rattle.forms.specs.Bytes.{cr, lf, comma, minus, digit}
+use Rattle.forms.specs.Bytes.{cr, lf, comma, minus}
 use Rattle.journal.specs.Answers.{Answer}
 
 -- ---- numbers
+
+-- the bytes of the digits 0 to 9 are 48 to 57
+abbrev pub digit : ℕ → ℕ
+digit d = 48 + d
 
 -- a row of one or more digits, and the number that it makes: one digit, or one digit more at the end
 pub data Digits : List ℕ → ℕ → Type 0 where

@@ -15,7 +15,7 @@ use Rattle.rules.specs.Rules.{slots, padded}
 use Rattle.forms.specs.declared.Number.{Number}
 use Rattle.forms.specs.declared.Form.{Form}
 use Rattle.forms.specs.declared.Entries.{Entries}
-use Rattle.forms.specs.Bytes.{cr, lf, comma, digit}
+use Rattle.forms.specs.Bytes.{cr, lf, comma}
 use Rattle.forms.specs.Number.{isDigit, allDigits, valueFrom, valueOf, numberOf}
 use Rattle.forms.specs.NumberLaws.{digit-bytes, bytes-digit, digits-head, digits-last, value-last, numeral, IsNumeral, digits-read, minus-read}
 use Rattle.forms.specs.NumberLaws.{NumberText, number-text}
@@ -25,7 +25,7 @@ use Rattle.forms.specs.Entries.{filled, entriesOf}
 use Rattle.forms.specs.ReadingLaws.{Spells, openingNumbers, SpellsAnswers, entries-read}
 use Rattle.forms.specs.TakenLaws.{Laid, entries-laid}
 use Rattle.journal.specs.Answers.{Answer, points, values}
-use Rattle.journal.specs.Spelling.{Digits, Numeral, AnswersText, SheetText}
+use Rattle.journal.specs.Spelling.{digit, Digits, Numeral, AnswersText, SheetText}
 use Rattle.journal.specs.Reading.{ReadAs, Reading}
 
 -- ---- a numeral is read as its number
