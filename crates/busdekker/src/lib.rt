@@ -4,7 +4,7 @@ ghost use mathlib.Core.Path.{_≡_};
 ghost use Rattle.rules.specs.Rows.{rowOf};
 ghost use Rattle.rules.specs.Search.{reportOf, quoteOf};
 ghost use Rattle.held.specs.Held.{reopenOf, heldReport, enterOf};
-ghost use Rattle.held.specs.HeldLaws.{verdictOf};
+ghost use Rattle.held.specs.Judged.{verdictOf};
 ghost use Rattle.outcomes.specs.Sheet.{sheetOf};
 ghost use Rattle.busdekker.specs.Interface.{version, quotationOf, answeredOf};
 ghost use Rattle.busdekker.specs.Inner.{writtenOf};
@@ -178,7 +178,7 @@ pub extern "C" fn busdekker_values(opening: Opening, values: &[i32]) -> Row
 pub extern "C" fn busdekker_sheet(text: &[u8]) -> Row
     ensures { λ r. ⌜ r ≡ rowOf (sheetOf (now (text .entry)) .report) ⌝ }
 {
-    let e = sheet::read_sheet(text);
-    let report = e.report;
-    printing::row_of(report)
+    let outcome = sheet::read_sheet(text);
+    let told = outcome.report;
+    printing::row_of(told)
 }

@@ -1,10 +1,10 @@
 // Held searches: a search that keeps its own list of values.
 ghost use mathlib.Core.Path.{_≡_};
-ghost use lib.ListN.{length, take};
+ghost use lib.ListN.{length};
 ghost use Rattle.rules.specs.Rules.{slots};
 ghost use Rattle.rules.specs.Search.{answersOf, reportAt, isRefusal};
-ghost use Rattle.held.specs.Held.{freshOf, reopenOf, openOf, heldReport, enterOf};
-ghost use Rattle.held.specs.HeldLaws.{standingBy, searchOf, verdictOf};
+ghost use Rattle.held.specs.Held.{freshOf, blank, reopenOf, openOf, standingOf, heldReport, enterOf};
+ghost use Rattle.held.specs.Judged.{searchOf, verdictOf};
 use rules::Opening;
 use rules::Report;
 
@@ -45,7 +45,8 @@ fn unanswered(opening: Opening) -> Search
 // values and the answers.
 fn told(opening: Opening, count: u32, held: &[i32], points: &[i32], values: &[i32]) -> Report
     requires { ⌜ (length (now held) ≡ slots) × (length (now points) ≡ length (now values)) ⌝ }
-    ensures { λ r. ⌜ r ≡ reportAt opening (answersOf opening (standingBy count opening (take count (now (held .entry)))) (now (points .entry)) (now (values .entry))) ⌝ }
+    ensures { λ r. ⌜ r ≡ reportAt opening
+        (answersOf opening (standingOf (searchOf opening count (now (held .entry)))) (now (points .entry)) (now (values .entry))) ⌝ }
 {
     if rules::SLOTS < count as usize {
         return Report::Refused {
@@ -126,6 +127,7 @@ impl Search {
     pub fn reopen(self, opening: Opening) -> Entered
         ensures { λ r. ⌜ r ≡ reopenOf self opening ⌝ }
     {
+        let fresh = unanswered(opening);
         let n = walk::opening_refusal(opening);
         if n != 0 {
             return Entered {
@@ -139,13 +141,13 @@ impl Search {
         let point = interpolation::magnitude(opening.first);
         Entered {
             report: Report::Next { point, taken: 0 },
-            search: unanswered(opening),
+            search: fresh,
         }
     }
 
-    // A fresh search and its report. Beside the refusal of an opening stands a blank, which every call refuses.
-    pub fn fresh(opening: Opening) -> Entered
-        ensures { λ r. ⌜ r ≡ openOf opening ⌝ }
+    // What stands beside a refusal where there was no search: every number is 0, and every call refuses it.
+    pub fn blank() -> Search
+        ensures { λ r. ⌜ r ≡ blank ⌝ }
     {
         let nothing = Opening {
             method: 0,
@@ -153,8 +155,15 @@ impl Search {
             second: 0,
             tolerance: 0,
         };
-        let blank = unanswered(nothing);
-        blank.reopen(opening)
+        unanswered(nothing)
+    }
+
+    // A fresh search and its report. A refused opening makes none: beside its refusal stands a blank.
+    pub fn fresh(opening: Opening) -> Entered
+        ensures { λ r. ⌜ r ≡ openOf opening ⌝ }
+    {
+        let none = Search::blank();
+        none.reopen(opening)
     }
 
     // The report of the search as it stands.

@@ -33,12 +33,14 @@ module _ {M : Type 1} (𝓤 : URA M) (H : Heap 𝓤) (A : Atoms 𝓤) (W : Given
       each ! (Back (x ∷ us) zero o) (λ u. assume ! (‵ (fat q τ b o u)) $ frame ! $ done !)
   out (x ∷ us) (suc k) d o h =
       qed W ((‵ (fat q τ b o x) ⊛ raw (elems 𝓤 H q τ b (o + size τ) us)) ∷ []) ∵ split ! $ move ! (1 ∷ []) $
-      use1 W (‵ (fat q τ b (place (size τ) (o + size τ) k) (getD us k d)) ⊛ raw (all 𝓤 (Back us k (o + size τ)))) (out us k d (o + size τ) (le-of-suc-le-suc h)) $
+      use1 W (‵ (fat q τ b (place (size τ) (o + size τ) k) (getD us k d)) ⊛ raw (all 𝓤 (Back us k (o + size τ)))) (out us k d (o + size τ)
+      (le-of-suc-le-suc h)) $
       split ! $ frame ! $
       each ! (Back (x ∷ us) (suc k) o) (λ u. assume ! (‵ (fat q τ b (place (size τ) (o + size τ) k) u)) $
       -- [the element's cell; the way back to the row after x; x's cell]
       move ! (1 ∷ []) $ use1 W (raw (Back us k (o + size τ) u)) (allE 𝓤 (Back us k (o + size τ)) u) $ move ! (1 ∷ 0 ∷ []) $
-      use2 W (raw (elems 𝓤 H q τ b (o + size τ) (set us k u))) (apply∗ 𝓤 (H .at q τ b (place (size τ) (o + size τ) k) u) (elems 𝓤 H q τ b (o + size τ) (set us k u))) $
+      use2 W (raw (elems 𝓤 H q τ b (o + size τ) (set us k u))) (apply∗ 𝓤 (H .at q τ b (place (size τ) (o + size τ) k) u)
+      (elems 𝓤 H q τ b (o + size τ) (set us k u))) $
       move ! (1 ∷ 0 ∷ []) $ frame ! $ done !)
 
 module _ {M : Type 1} {𝓤 : URA M} {H : Heap 𝓤} {A : Atoms 𝓤} {K : Type 0} {W : Given 𝓤 H A} where
@@ -56,7 +58,8 @@ module _ {M : Type 1} {𝓤 : URA M} {H : Heap 𝓤} {A : Atoms 𝓤} {K : Type 
         use2 W (raw (elems 𝓤 H q τ b o (set us k u))) (apply∗ 𝓤 (H .at q τ b (place (size τ) o k) u) (elems 𝓤 H q τ b o (set us k u))) $
         use1 W (‵ (fat q (tyArray τ n) b o (vstruct (ofList (set us k u))))) (whole u) $
         move ! (1 ∷ []) $ use1 W (raw (Entry (vstruct (ofList (set us k u))))) (allE 𝓤 Entry (vstruct (ofList (set us k u)))) $ move ! (1 ∷ 0 ∷ []) $
-        use2 W (back (vstruct (ofList (set us k u)))) (apply∗ 𝓤 (H .at q (tyArray τ n) b o (vstruct (ofList (set us k u)))) (mean 𝓤 H A (back (vstruct (ofList (set us k u)))))) $ done !);
+        use2 W (back (vstruct (ofList (set us k u)))) (apply∗ 𝓤 (H .at q (tyArray τ n) b o (vstruct (ofList (set us k u))))
+        (mean 𝓤 H A (back (vstruct (ofList (set us k u)))))) $ done !);
     same = ap (λ (ws : List Val). back (vstruct (ofList ws))) (set-getD us k d) ∙ p .same;
   }
     where
@@ -64,7 +67,8 @@ module _ {M : Type 1} {𝓤 : URA M} {H : Heap 𝓤} {A : Atoms 𝓤} {K : Type 
       Entry w = wand 𝓤 (H .at q (tyArray τ n) b o w) (mean 𝓤 H A (back w))
 
       whole : (u : Val) → ent 𝓤 (elems 𝓤 H q τ b o (set us k u)) (H .at q (tyArray τ n) b o (vstruct (ofList (set us k u))))
-      whole u = subst (λ (m : ℕ). ent 𝓤 (elems 𝓤 H q τ b o (set us k u)) (H .at q (tyArray τ m) b o (vstruct (ofList (set us k u))))) (length-set us k u ∙ l) (W .laws .elems-at q τ b o (set us k u))
+      whole u = subst (λ (m : ℕ). ent 𝓤 (elems 𝓤 H q τ b o (set us k u)) (H .at q (tyArray τ m) b o (vstruct (ofList (set us k u)))))
+          (length-set us k u ∙ l) (W .laws .elems-at q τ b o (set us k u))
 
   pub elem : K → {i : Item 𝓤} {q : Share} {τ : Ty} {n b o : ℕ} (us : List Val) {back : Val → Item 𝓤} (k : ℕ) (d : Val) → length us ≡ n → k < length us
       → Part K W i q (tyArray τ n) b o (vstruct (ofList us)) back

@@ -1,7 +1,8 @@
 -- What the proofs by hand of this crate and of crate `busdekker` share: a function is walked statement by statement, and calls one function
 -- that is already proved.
 --     Plain        a type whose values own only facts and are one machine value each.        struct       a struct's
---     had          what a value of such a type owns is had for nothing.        number    what a number owns.        number-stays, number-goes     it is a parameter
+--     had          what a value of such a type owns is had for nothing.        number       what a number owns
+--     number-stays, number-goes     a number as a parameter
 --     taken-out    a `&mut` is opened, and what lies behind it is known
 --     put-back     a value is left behind the `&mut`, which is closed at it
 --     holds        what is had for nothing is no goal

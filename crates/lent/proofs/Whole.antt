@@ -17,8 +17,10 @@ use prog.Routine.{Routine, Env}
 use contract.Lifetimes.{Lfts}
 use contract.Monad.{fact}
 use contract.Running.{GhostRules, Running, givenOf, tables}
-use types.Kit.{Given, ‵, raw, _⊛_, _$_, _∵_, !, qed, by, move, keep, drop, use1, split, join, fsplit, fsplit3, fjoin, fjoin3, feqI, rewrite, suffices, frame, done}
-use types.Run.{look, look-raw, store-raw, init, forget, stop, hop, fld, from, load, and-then, no-more, of-opd, assigns, land, returns, enter, alloc1, alloc0, params1, pass1, pass0, free1, free0}
+use types.Kit.{Given, ‵, raw, _⊛_, _$_, _∵_, !, qed, by, move, keep, drop, use1, split, join, fsplit, fsplit3, fjoin, fjoin3, feqI, rewrite, suffices}
+use types.Kit.{frame, done}
+use types.Run.{look, look-raw, store-raw, init, forget, stop, hop, fld, from, load, and-then, no-more, of-opd, assigns, land, returns, enter, alloc1}
+use types.Run.{alloc0, params1, pass1, pass0, free1, free0}
 use types.Part.{whole, sub, look-in}
 use types.SemTy.{Body}
 use sound.WpLaws.{FmC}
@@ -146,7 +148,8 @@ module _ (R P : Plain) (none : (p : P .type .Denot) → Last (P .type .exit yes)
 
         -- the exit, at what the step returned
         exits : (r : E .type .Denot) → r ≡ of h p → Is (row R) (E .told r) (vals R (E .told r))
-            → ent 𝓤 (sep 𝓤 (A .obs γ (row search .coded .code (E .left r))) (sep 𝓤 (A .bor κ (Body (mem (row search)) b o γ)) (A .lft κ q))) (Post (R .val (E .told r)))
+            → ent 𝓤 (sep 𝓤 (A .obs γ (row search .coded .code (E .left r))) (sep 𝓤 (A .bor κ (Body (mem (row search)) b o γ)) (A .lft κ q)))
+            (Post (R .val (E .told r)))
         exits r e is =
             qed W (‵ (fobs γ (row search .coded .code (E .left r))) ∷ ‵ (fbor κ (Body (mem (row search)) b o γ)) ∷ ‵ (flft κ q) ∷ []) ∵
             suffices ! _ (ends-at 𝓤 H A ended stayed c W (((κ, tt), (q, tt), tt, x, at), g) (R .val (E .told r)) (E .told r)
@@ -200,8 +203,10 @@ module _ (R P : Plain) (none : (p : P .type .Denot) → Last (P .type .exit yes)
           (λ κs qs bounds a g are. via 𝓤 _ (fst∗ 𝓤 _ (c κs a .requires g))
           (walk W (κs .0) (qs .0) (a .0 .ptr .0) (a .0 .ptr .1) (a .0 .name) (a .0 .now) (a .1 .0) (are .1 .0) g step C Λ fm known))
 
-  -- `silent`: nothing is said of the value at exit. k is the function's name, and γ the names that it calls; `step` is the step's, and r its code
-  module _ (silent : (p : P .type .Denot) (f : Last (P .type .exit yes) p) → left (P .type .exit yes) p f ≡ ftrue) (of : Search → P .type .Denot → E .type .Denot)
+  -- `silent`: nothing is said of the value at exit. k is the function's name, and γ the names that it calls; `step` is the step's, and
+  -- r its code
+  module _ (silent : (p : P .type .Denot) (f : Last (P .type .exit yes) p) → left (P .type .exit yes) p f ≡ ftrue) (of : Search → P .type .Denot
+      → E .type .Denot)
       {M : Type 1} (𝓤 : URA M) (H : Heap 𝓤) (𝓜 : Model 𝓤 H) (𝓖 : GhostRules 𝓤 H) (𝓡 : Running 𝓤 H 𝓜) where
     goes : AllGo 𝓤 H (𝓖 .A) (givenOf 𝓤 H 𝓜 𝓖) 1 (ended .signature .params) (ended .kept) stayed
     goes =

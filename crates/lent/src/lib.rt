@@ -9,7 +9,8 @@ use rules::Report;
 
 // Makes the host's search a fresh one of the opening, and tells its report. A refused opening leaves it as it was.
 pub fn open_into(search: &mut Search, opening: Opening) -> Report
-    ensures { λ r. ⌜ (r ≡ (reopenOf (now (search .entry)) opening) .report) × (now (search .exit) ≡ (reopenOf (now (search .entry)) opening) .search) ⌝ }
+    ensures { λ r. ⌜ (r ≡ (reopenOf (now (search .entry)) opening) .report)
+        × (now (search .exit) ≡ (reopenOf (now (search .entry)) opening) .search) ⌝ }
 {
     let e = (*search).reopen(opening);
     *search = e.search;
@@ -18,7 +19,8 @@ pub fn open_into(search: &mut Search, opening: Opening) -> Report
 
 // Enters an answer into the host's search: one slot and the count are stored. A refused answer leaves them as they were.
 pub fn enter_into(search: &mut Search, point: i32, value: i32) -> Report
-    ensures { λ r. ⌜ (r ≡ (enterOf (now (search .entry)) point value) .report) × (now (search .exit) ≡ (enterOf (now (search .entry)) point value) .search) ⌝ }
+    ensures { λ r. ⌜ (r ≡ (enterOf (now (search .entry)) point value) .report)
+        × (now (search .exit) ≡ (enterOf (now (search .entry)) point value) .search) ⌝ }
 {
     let v = held::judge(*search, point, value);
     let at = v.at;

@@ -17,7 +17,8 @@ use ghost.Atoms.{Atoms, sem}
 use contract.Monad.{Fun}
 use contract.Running.{givenOf}
 use types.Kit.{Given, ‵, raw, _⊛_, ⋆, _$_, _∵_, !, qed, by, move, keep, drop, use1, split, join, fsplit, fsplit3, fjoin, fjoin3, feqI, suffices, frame, done}
-use types.Run.{look, look-raw, init, forget, stop, hop, from, load, and-then, no-more, of-opd, assigns, land, returns, enter, alloc1, alloc0, params1, pass1, pass0, free1, free0}
+use types.Run.{look, look-raw, init, forget, stop, hop, from, load, and-then, no-more, of-opd, assigns, land, returns, enter, alloc1, alloc0, params1}
+use types.Run.{pass1, pass0, free1, free0}
 use sound.WpLaws.{FmC}
 use denote.RattleType.{owns}
 use denote.Laws.{Is, shows}
@@ -98,7 +99,8 @@ module _ {M : Type 1} (𝓤 : URA M) (H : Heap 𝓤) (A : Atoms 𝓤) (W : Given
         alloc1 ! (λ l₀. alloc1 ! (λ l₁. alloc1 ! (λ l₂. alloc0 ! $ params1 ! $ pass1 ! (init ! 2 refl (tt, tt)) $ pass0 ! $
         -- [_2; …; _1; …; room for _0; …; the token and true; what the parameter owns]
         move ! (7 ∷ []) $ fsplit ! $ fsplit3 ! $ drop ! $ move ! (9 ∷ []) $ split ! $ move ! (3 ∷ 0 ∷ []) $
-        looks ! tt (row search) (Is (row search)) (shows 𝓤 H A (row search)) (vals search) (search .tells) (LL.copy S.the-type S′.the-copy 𝓤 H A W) h b o (λ q′ vs.
+        looks ! tt (row search) (Is (row search)) (shows 𝓤 H A (row search)) (vals search) (search .tells)
+        (LL.copy S.the-type S′.the-copy 𝓤 H A W) h b o (λ q′ vs.
         spelt ! (row search) (Is (row search)) (shows 𝓤 H A (row search)) (vals search) (search .tells) q′ h vs b o $ move ! (1 ∷ []) $
         peeks ! (row search) (Is (row search)) (shows 𝓤 H A (row search)) h (vals search h) (λ was. move ! (1 ∷ 0 ∷ []) $
         -- [a share of the struct's cell; what a Search owns; what shuts it; the fractured borrow; true; res; true; _2 (7); …; _1 (9); …;

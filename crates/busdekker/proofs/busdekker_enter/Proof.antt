@@ -8,7 +8,8 @@ use base.Logic.{emp}
 use contract.Monad.{factI}
 use Rattle.rules.specs.Rules.{slots}
 use Rattle.held.specs.declared.Search.{Search}
-use Rattle.held.specs.HeldLaws.{verdictOf, Stores, stores}
+use Rattle.held.specs.Judged.{verdictOf}
+use Rattle.held.specs.HeldLaws.{Stores, stores}
 use Rattle.busdekker.specs.declared.Written.{Written}
 use Rattle.rules.specs.Rows.{rowOf}
 use Rattle.busdekker.specs.Inner.{writtenOf}

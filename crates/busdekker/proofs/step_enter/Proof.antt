@@ -5,7 +5,8 @@ use lib.IntN.{ℤ}
 use mir.Syntax.{w32}
 use mir.Val.{SFits, toZ, ofZ}
 use mir.Facts.{toZ-ofZ}
-use Rattle.held.specs.HeldLaws.{verdictOf}
+use Rattle.held.specs.declared.Verdict.{Verdict}
+use Rattle.held.specs.Judged.{verdictOf}
 use Rattle.busdekker.specs.Inner.{writtenOf}
 use Rattle.rules.specs.declared.Row.{Row}
 use borrow.Author.Needs.{needs}
@@ -21,9 +22,14 @@ row-of-requires c κs = search needs
 judged : (c : tie.After-judge) → c .judge .result ≡ verdictOf (c .before .args .search) (c .before .args .point) (c .before .args .value)
 judged c = let s = c .before in rw (toZ-ofZ (s .fits .point), toZ-ofZ (s .fits .value)) at (c .judge .ensures)
 
-written : (c : tie.After-struct-told) → record { report = c .before .row-of .result; count = c .before .before .judge .result .count; at = c .before .before .judge .result .at; value = toZ w32 (ofZ w32 (c .before .before .judge .result .value)) } ≡ writtenOf (c .before .before .judge .result)
+abbrev verdict-of : tie.After-struct-told → Verdict
+verdict-of c = c .before .before .judge .result
+
+written : (c : tie.After-struct-told)
+    → record { report = c .before .row-of .result; count = verdict-of c .count; at = verdict-of c .at; value = toZ w32 (ofZ w32 (verdict-of c .value)) }
+    ≡ writtenOf (verdict-of c)
 written c =
-    let v = c .before .before .judge .result in
+    let v = verdict-of c in
     let f : SFits w32 (v .value) = search needs in
     ap₂ (λ (n : Row) (z : ℤ). record { report = n; count = v .count; at = v .at; value = z }) (c .before .row-of .ensures) (toZ-ofZ f)
 

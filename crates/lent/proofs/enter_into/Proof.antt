@@ -10,7 +10,8 @@ use contract.Monad.{factI}
 use denote.Struct.Laws as SL
 use Rattle.rules.specs.Rules.{slots}
 use Rattle.held.specs.declared.Search.{Search}
-use Rattle.held.specs.HeldLaws.{verdictOf, stores}
+use Rattle.held.specs.Judged.{verdictOf}
+use Rattle.held.specs.HeldLaws.{stores}
 use Rattle.held.proofs.Verdict as E
 use Rattle.held.proofs.Verdict.Laws as E′
 use Rattle.held.proofs.judge.Symbol as step

@@ -18,8 +18,10 @@ use prog.Wp.{Heap, Calls, Loops, WpFn}
 use ghost.Atoms.{Atoms, sem}
 use contract.Monad.{Fun, fact}
 use contract.Running.{givenOf}
-use types.Kit.{Given, ‵, raw, _⊛_, some, later, given, _$_, _∵_, !, qed, by, move, keep, drop, use1, use2, use3, split, join, pick, learn, check, fsplit, fjoin, fpick, fpack, rewrite, suffices, frame, await, done}
-use types.Run.{look, init, forget, stop, from, load, and-then, no-more, of-opd, addr, assigns, land, returns, enter, alloc1, alloc0, params1, pass1, pass0, free1, free0}
+use types.Kit.{Given, ‵, raw, _⊛_, some, later, given, _$_, _∵_, !, qed, by, move, keep, drop, use1, use2, use3, split, join, pick, learn, check}
+use types.Kit.{fsplit, fjoin, fpick, fpack, rewrite, suffices, frame, await, done}
+use types.Run.{look, init, forget, stop, from, load, and-then, no-more, of-opd, addr, assigns, land, returns, enter, alloc1, alloc0, params1, pass1}
+use types.Run.{pass0, free1, free0}
 use types.Part.{agg}
 use types.Tokens.{lft-new, lft-end}
 use types.SemTy.{Body}
@@ -121,7 +123,8 @@ module _ {M : Type 1} (𝓤 : URA M) (H : Heap 𝓤) (A : Atoms 𝓤) (W : Given
   abbrev result : Report → Search → Entered
   result n s = record { report = n; search = s }
 
-  result-is : (n : Report) (s : Search) → Is (row report) n (vals report n) → Is (row search) s (vals search s) → Is (row both) (result n s) (vals both (result n s))
+  result-is : (n : Report) (s : Search) → Is (row report) n (vals report n) → Is (row search) s (vals search s)
+      → Is (row both) (result n s) (vals both (result n s))
   result-is n s n-is s-is = LL.owes E.the-type E′.the-laws (result n s) (n-is, (s-is, tt))
 
   exits : (n : Report) (s : Search) → (n ≡ (enterOf h p z) .report) × (s ≡ (enterOf h p z) .search) → Is (row report) n (vals report n)
@@ -197,7 +200,8 @@ module _ {M : Type 1} (𝓤 : URA M) (H : Heap 𝓤) (A : Atoms 𝓤) (W : Given
   walks C Λ fm known =
       walked 𝓤 H A f.ended stayed (f.clauses 𝓤 H A at-mem run) (WpFn 𝓤 H C Λ code.function)
       (λ κs. (vals search, (sint-vals w32, (sint-vals w32, tt)))) (λ κs. (search .tells, (sint-tells w32, (sint-tells w32, tt))))
-      (λ κs qs bounds a _ are. via 𝓤 _ (fst∗ 𝓤 _ (emp 𝓤)) (walk 𝓤 H A W at-mem run (a .0) (a .1 .0) (a .1 .1 .0) (are .0) (are .1 .0) (are .1 .1 .0) C Λ fm known))
+      (λ κs qs bounds a _ are. via 𝓤 _ (fst∗ 𝓤 _ (emp 𝓤)) (walk 𝓤 H A W at-mem run (a .0) (a .1 .0) (a .1 .1 .0) (are .0) (are .1 .0)
+      (are .1 .1 .0) C Λ fm known))
 
   goes : AllGo 𝓤 H A W 0 (f.signature .params) (f.ended .kept) stayed
   goes = (goes-none 𝓤 H A W 0 (λ _. row search) yes (λ κs x f. refl), (number-goes 𝓤 H A W 0, (number-goes 𝓤 H A W 0, tt)))

@@ -10,6 +10,9 @@ use Rattle.held.specs.HeldLaws.{open-refused, open-accepted}
 use Rattle.held.proofs.Search.reopen.Statement.{statement}
 use Rattle.held.proofs.Search.reopen.Tie as tie
 
+unanswered-requires : tie.Need-unanswered-requires
+unanswered-requires c κs = search needs
+
 opening-refusal-requires : tie.Need-opening-refusal-requires
 opening-refusal-requires c κs = search needs
 
@@ -21,22 +24,13 @@ returns c =
 magnitude-requires : tie.Need-magnitude-requires
 magnitude-requires c κs = search needs
 
-unanswered-requires : tie.Need-unanswered-requires
-unanswered-requires c κs = search needs
-
 returns-2 : tie.Need-returns-2
 returns-2 c =
-    let p = c .before .before .before in
+    let p = c .before .before in
     let n = p .before .opening-refusal in
-    let f : SFits w32 (p .before .before .args .opening .first) = search needs in
-    open-accepted _ _ (n .result) (n .ensures) (p .if1 .left) _ (c .before .magnitude .ensures ∙ ap natAbs (read f)) _ (c .unanswered .ensures)
+    let u = p .before .before .unanswered in
+    let f : SFits w32 (p .before .before .before .args .opening .first) = search needs in
+    open-accepted _ _ (n .result) (n .ensures) (p .if1 .left) _ (c .magnitude .ensures ∙ ap natAbs (read f)) _ (u .ensures)
 
 pub reopen-spec : {M : Type 1} → statement M
-reopen-spec =
-    tie.close
-    (tie.spec
-    opening-refusal-requires
-    returns
-    magnitude-requires
-    unanswered-requires
-    returns-2)
+reopen-spec = tie.close (tie.spec unanswered-requires opening-refusal-requires returns magnitude-requires returns-2)
