@@ -4,7 +4,7 @@ use Prim.Native.Nat.{ℕ, zero, suc, _+_, _*_, _-_, _/_, _≤_, _<_, min}
 use mathlib.Core.Path.{_≡_, refl, sym, ap, _∙_}
 use mathlib.Core.Bool.{Bool, true, false, cond}
 use mathlib.Core.List.{List, [], _∷_, _++_}
-use native.Mathlib.Nat.{sub-zero, sub-eq-zero-of-le, zero-add}
+use native.Mathlib.Nat.{sub-zero, zero-add}
 use native.Mathlib.Numerals.{add-one}
 use native.Mathlib.Omega.{arith}
 use lib.Dec.{eqb}
@@ -50,18 +50,6 @@ calls-few (suc n) (k ∷ ks) (x ∷ xs) [] = omega arith
 calls-few (suc n) (k ∷ ks) (x ∷ xs) (v ∷ vs) = omega (arith, calls-few n ks xs vs)
 
 -- ---- the rows one by one
-
-pub row-stored : (l : List ℕ) (at a b c d e f g h : ℕ)
-    → set (set (set (set (set (set (set (set l at a) (at + 1) b) (at + 2) c) (at + 3) d) (at + 4) e) (at + 5) f) (at + 6) g) (at + 7) h
-    ≡ sets l at (a ∷ b ∷ c ∷ d ∷ e ∷ f ∷ g ∷ h ∷ [])
-row-stored l at a b c d e f g h =
-    let two : at + 2 ≡ suc (suc at) = omega arith in
-    let three : at + 3 ≡ suc (suc (suc at)) = omega arith in
-    let four : at + 4 ≡ suc (suc (suc (suc at))) = omega arith in
-    let five : at + 5 ≡ suc (suc (suc (suc (suc at)))) = omega arith in
-    let six : at + 6 ≡ suc (suc (suc (suc (suc (suc at))))) = omega arith in
-    let seven : at + 7 ≡ suc (suc (suc (suc (suc (suc (suc at)))))) = omega arith in
-    rw (add-one at, two, three, four, five, six, seven)
 
 row-length : (r : Report) → length (rowNumbers (rowOf r)) ≡ numbersEach
 row-length r = refl
@@ -126,11 +114,7 @@ module _ (s₀ : Search) (ks : List ℕ) (xs vs : List ℤ) (before : List ℕ) 
       rw (e, drop-cons ks i 0 (omega arith), drop-cons xs i (pos 0) (omega arith), drop-cons vs i (pos 0) (omega arith), add-one i)
 
   none-left : (i : ℕ) → shortest ks xs vs before ≤ i → leftOf n ks xs vs i ≡ []
-  none-left i h =
-      let lists = min (length xs) (length vs) in
-      no-calls (n - i) (drop i ks) (drop i xs) (drop i vs)
-      (rw (length-drop i ks, length-drop i xs, length-drop i vs, sub-min n (length ks) i, sub-min (length xs) (length vs) i, sub-min (min n (length ks)) lists i)
-      (sub-eq-zero-of-le h))
+  none-left i h = no-calls (n - i) (drop i ks) (drop i xs) (drop i vs) (simp (length-drop, sub-min) (omega arith))
 
   -- of m calls, which are all
   module _ {i m : ℕ} {s : Search} {list : List ℕ} (made : Made s₀ ks xs vs before i s list) (number : m ≡ shortest ks xs vs before) where

@@ -48,13 +48,11 @@ module _ (o : Opening) where
 
   pub accepted-is : isRefusal (openOf o .report) ≡ false → Accepted o
   unfolding reopenOf
-  accepted-is = go (eqb (openingRefusal o) 0) refl
+  accepted-is h = go (eqb (openingRefusal o) 0) refl
     where
-      go : (b : Bool) → eqb (openingRefusal o) 0 ≡ b
-          → isRefusal (cond {A = Entered} b (record { report = reportOf o []; search = freshOf o }) (record { report = Report.Refused (openingRefusal o) 0; search = blank }) .report) ≡ false
-          → Accepted o
-      go true e h = record { accepted = eqb-true (openingRefusal o) 0 e }
-      go false e h = never h
+      go : (b : Bool) → eqb (openingRefusal o) 0 ≡ b → Accepted o
+      go true e = record { accepted = eqb-true (openingRefusal o) 0 e }
+      go false e = never (simp e at h)
 
 -- e is what the opening opens as, and b says whether that is a refusal
 module _ (o : Opening) (ks : List ℕ) (xs vs : List ℤ) (before : List ℕ) {e : Entered} {b : Bool}

@@ -1,17 +1,11 @@
 // A run of calls of both kinds, made for real: what they report and the search that they leave are those of the claim about whole runs.
 ghost use mathlib.Core.Path.{_≡_};
-ghost use Prim.Native.Nat.{_+_, _*_, _≤_, min};
-ghost use lib.ListN.{length};
-ghost use lib.Seq.{sets};
-ghost use Rattle.rules.specs.Rows.{rowNumbers};
-ghost use Rattle.held.specs.Held.{enterOf};
-ghost use Rattle.replay.specs.Replay.{numbersEach, Replays};
+ghost use Prim.Native.Nat.{min};
+ghost use Rattle.replay.specs.Replay.{Replays};
 ghost use Rattle.replay.specs.Calls.{shortest, Before, CallMade, CallsMade};
-use held::Entered;
 use held::Search;
 use rules::Opening;
 use rules::Report;
-use rules::Row;
 
 // The numbers that a report is written as: those of a row.
 pub const NUMBERS_EACH: usize = 8;
@@ -23,32 +17,6 @@ pub struct Replayed {
 }
 
 // ---- one call
-
-// By value, or into a search that is lent.
-fn call(kind: u8, search: Search, point: i32, value: i32) -> Entered
-    ensures { λ r. ⌜ r ≡ enterOf search point value ⌝ }
-{
-    if kind == 0 {
-        search.enter(point, value)
-    } else {
-        lent::enter_through(search, point, value)
-    }
-}
-
-// The numbers of a row, from a place on.
-fn put_row(rows: &mut [u32], at: usize, row: Row)
-    requires { ⌜ at + numbersEach ≤ length (now rows) ⌝ }
-    ensures { λ _. ⌜ now (rows .exit) ≡ sets (now (rows .entry)) at (rowNumbers row) ⌝ }
-{
-    rows[at] = row.kind;
-    rows[at + 1] = row.point;
-    rows[at + 2] = row.lower;
-    rows[at + 3] = row.upper;
-    rows[at + 4] = row.better;
-    rows[at + 5] = row.taken;
-    rows[at + 6] = row.number;
-    rows[at + 7] = row.place;
-}
 
 // The call at a place of the lists, and its report in its place among the rows.
 fn call_at(
@@ -62,9 +30,9 @@ fn call_at(
     requires { ⌜ Before i (now kinds) (now points) (now values) (now rows) ⌝ }
     ensures { λ r. ⌜ CallMade i search (now (kinds .entry)) (now (points .entry)) (now (values .entry)) (now (rows .entry)) r (now (rows .exit)) ⌝ }
 {
-    let next = call(kinds[i], search, points[i], values[i]);
+    let next = calls::call(kinds[i], search, points[i], values[i]);
     let report = next.report;
-    put_row(rows, NUMBERS_EACH * i, printing::row_of(report));
+    calls::put_row(rows, NUMBERS_EACH * i, printing::row_of(report));
     next.search
 }
 

@@ -1,1 +1,3 @@
-pub mod Filled
+-- The modules of `specs/`.
+pub mod Input
+pub mod InputLaws

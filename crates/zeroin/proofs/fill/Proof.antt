@@ -1,4 +1,5 @@
--- `zeroin::fill` meets its contract: what has been read lies within the buffer, and each turn reads a byte or more.
+-- `zeroin::fill` meets its contract: what has been read lies within the buffer, and each turn reads a byte or more. The measure is what
+-- is left of the buffer.
 -- Assumes nothing.
 use Prim.Native.Nat.{ℕ, _+_, _-_, _≤_}
 use mathlib.Core.List.{List}
@@ -26,8 +27,13 @@ stays : (c : tie.After-buf Inv-loop μ-loop) → length (after c) ≡ length (c 
 stays c = c .buf .given .1
 
 -- what was counted lies in what was left of the buffer, whose length stays
-room : (c : tie.After-count Inv-loop μ-loop) → c .before .before .before .before .before .before .before .before .before .loop .done + c .count .result ≤ length (c .before .before .before .before .before .before .before .before .before .loop .buf)
-room c = omega (arith, simp (length-take, length-drop) at (c .count .ensures .0 .0), stays (c .before .before .before .before .before), c .before .before .before .before .before .before .before .before .before .loop .inv .0)
+room : (c : tie.After-count Inv-loop μ-loop)
+    → let l = c .before .before .before .before .before .before .before .before .before .loop in
+    l .done + c .count .result ≤ length (l .buf)
+room c =
+    let l = c .before .before .before .before .before .before .before .before .before .loop in
+    let within = simp (length-take, length-drop) at (c .count .ensures .0 .0) in
+    omega (arith, within, stays (c .before .before .before .before .before), l .inv .0)
 
 loop-holds : tie.Need-loop-holds Inv-loop μ-loop
 loop-holds c = search needs
@@ -63,7 +69,9 @@ count-requires : tie.Need-count-requires Inv-loop μ-loop
 count-requires c κs = search needs
 
 same-length-2 : tie.Need-same-length-2 Inv-loop μ-loop
-same-length-2 c = c .before .before .before .before .before .before .buf .given .1 ∙ c .before .before .before .before .before .before .before .before .before .before .loop .inv .1
+same-length-2 c =
+    let b = c .before .before .before .before .before .before in
+    b .buf .given .1 ∙ b .before .before .before .before .loop .inv .1
 
 returns-2 : tie.Need-returns-2 Inv-loop μ-loop
 returns-2 c = search needs
@@ -75,7 +83,9 @@ loop-less : tie.Need-loop-less Inv-loop μ-loop
 loop-less c = omega (arith, room (c .before), stays (c .before .before .before .before .before .before), c .if2 .left)
 
 loop-again : tie.Need-loop-again Inv-loop μ-loop
-loop-again c = (omega (arith, room (c .before), stays (c .before .before .before .before .before .before)), stays (c .before .before .before .before .before .before) ∙ c .before .before .before .before .before .before .before .before .before .before .loop .inv .1)
+loop-again c =
+    let b = c .before .before .before .before .before .before in
+    (omega (arith, room (c .before), stays b), stays b ∙ b .before .before .before .before .loop .inv .1)
 
 same-length-3 : tie.Need-same-length-3 Inv-loop μ-loop
 same-length-3 c = c .before .loop .inv .1

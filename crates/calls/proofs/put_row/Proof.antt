@@ -1,11 +1,11 @@
--- `replay::put_row` meets its contract: eight stores in a row, each within the slice.
+-- `calls::put_row` meets its contract: eight stores in a row, each within the slice.
 -- Assumes nothing.
 use native.Mathlib.Omega.{arith}
 use lib.ListN.{length-set}
 use borrow.Author.Needs.{needs}
-use Rattle.replay.specs.CallsLaws.{row-stored}
-use Rattle.replay.proofs.put_row.Statement.{statement}
-use Rattle.replay.proofs.put_row.Tie as tie
+use Rattle.calls.specs.Stored.{row-stored}
+use Rattle.calls.proofs.put_row.Statement.{statement}
+use Rattle.calls.proofs.put_row.Tie as tie
 
 mul-rows : tie.Need-mul-rows
 mul-rows c = search needs

@@ -1,9 +1,9 @@
--- `replay::call` meets its contract: both kinds of call do the same.
+-- `calls::call` meets its contract: both kinds of call do the same.
 -- Assumes nothing.
 use borrow.Author.Needs.{needs}
 use Rattle.integers.specs.Bounds.{read}
-use Rattle.replay.proofs.call.Statement.{statement}
-use Rattle.replay.proofs.call.Tie as tie
+use Rattle.calls.proofs.call.Statement.{statement}
+use Rattle.calls.proofs.call.Tie as tie
 
 enter-requires : tie.Need-enter-requires
 enter-requires c κs = search needs

@@ -1,0 +1,82 @@
+-- `zeroin::write_record` meets its contract: an input that fills the buffer is too long, however it goes on.
+-- Assumes nothing.
+use Prim.Native.Nat.{_<_}
+use mathlib.Core.Path.{refl, sym, subst}
+use native.Mathlib.Omega.{arith}
+use lib.ListN.{length}
+use lib.Seq.{length-take-le}
+use borrow.Author.Needs.{needs}
+use Rattle.zeroin.specs.declared.Filled.{Filled}
+use Rattle.zeroin.specs.Input.{Within, Answers}
+use Rattle.zeroin.specs.InputLaws.{goes-on}
+use Rattle.zeroin.proofs.write_record.Statement.{statement}
+use Rattle.zeroin.proofs.write_record.Tie as tie
+
+-- an input that ended did so within the buffer
+ended : (c : tie.After-filled) → c .filled .given .0 .0 < length (c .before .before .before .before .args .text .now)
+ended c =
+    let start = c .before .before .before .before in
+    subst (λ (f : Filled). Within f (start .args .text .now)) (c .filled .given .1) (start .pre .0)
+
+enum-told : tie.Need-enum-told
+enum-told c = search needs
+
+answer-sheet-requires : tie.Need-answer-sheet-requires
+answer-sheet-requires c κs = search needs
+
+enum-known-filled : tie.Need-enum-known-filled
+enum-known-filled c = search needs
+
+slice-aggregate-answer-sheet : tie.Need-slice-aggregate-answer-sheet
+slice-aggregate-answer-sheet c = sym (length-take-le _ _ (omega (arith, ended (c .before .before))))
+
+answer-sheet-requires-2 : tie.Need-answer-sheet-requires-2
+answer-sheet-requires-2 c κs = search needs
+
+enum-told-2 : tie.Need-enum-told-2
+enum-told-2 c = search needs
+
+same-length : tie.Need-same-length
+same-length c = search needs
+
+returns : tie.Need-returns
+returns c =
+    let told = c .before .before .before .before in
+    let start = told .before .before .before .before in
+    let called = c .before .before .answer-sheet in
+    subst (λ (f : Filled). Answers f (start .args .text .now) (start .args .out .now) (called .result) (called .last .1 .0))
+    (sym (told .enum-told .given .1))
+    (goes-on (start .pre .1) (record { long = called .ensures .0; text = called .ensures .1 }))
+
+same-length-2 : tie.Need-same-length-2
+same-length-2 c = search needs
+
+returns-2 : tie.Need-returns-2
+returns-2 c =
+    let told = c .before .before .before .before .before .before in
+    let start = told .before .before .before .before in
+    let called = c .before .before .answer-sheet2 in
+    subst (λ (f : Filled). Answers f (start .args .text .now) (start .args .out .now) (called .result) (called .last .1 .0))
+    (sym (told .filled .given .1))
+    (record { long = called .ensures .0; text = called .ensures .1 })
+
+returns-3 : tie.Need-returns-3
+returns-3 c =
+    let x = c .before .before .before .before .args in
+    subst (λ (f : Filled). Answers f (x .text .now) (x .out .now) 0 (x .out .now)) (sym (c .enum-told2 .given .1)) (refl, refl)
+
+pub write-record-spec : {M : Type 1} → statement M
+write-record-spec =
+    tie.close
+    (tie.spec
+    enum-told
+    answer-sheet-requires
+    enum-known-filled
+    slice-aggregate-answer-sheet
+    answer-sheet-requires-2
+    enum-told-2
+    same-length
+    returns
+    same-length-2
+    returns-2
+    returns-3)

@@ -1,0 +1,41 @@
+-- An input that begins with more bytes than the longest text is answered alike, whatever follows; and what is written lies within the
+-- buffer.
+-- Assumes nothing.
+use Prim.Native.Nat.{ℕ, _≤_, _<_}
+use mathlib.Core.Path.{_≡_, sym, ap, _∙_}
+use mathlib.Core.List.{List, [], _++_}
+use native.Mathlib.Omega.{arith}
+use borrow.Author.Tests.{lt-ltb}
+use lib.ListN.{length, length-append}
+use Rattle.held.specs.declared.Entered.{Entered}
+use Rattle.forms.specs.declared.Entries.{Entries}
+use Rattle.forms.specs.Entries.{longestText, wholeText, tooLong, refused, entriesOf}
+use Rattle.printing.specs.Printed.{recordOf, placed, placedLength}
+use Rattle.printing.specs.PrintedLaws.{written-within}
+use Rattle.sheet.specs.Sheet.{sheetOf}
+use Rattle.zeroin.specs.declared.Filled.{Filled}
+use Rattle.zeroin.specs.Input.{Record, Answers}
+
+entries-long : (text : List ℕ) → longestText < length text → entriesOf text ≡ refused tooLong wholeText
+unfolding entriesOf
+entries-long text h = rw (lt-ltb longestText (length text) h)
+
+-- two texts that are too long are one sheet
+sheet-long : (s t : List ℕ) → longestText < length s → longestText < length t → sheetOf s ≡ sheetOf t
+unfolding sheetOf
+sheet-long s t h k = rw (entries-long s h, entries-long t k)
+
+pub goes-on : {buffer before : List ℕ} {n : ℕ} {after : List ℕ} → longestText < length buffer → Record buffer before n after
+    → (rest : List ℕ) → Record (buffer ++ rest) before n after
+goes-on {buffer} {before} h r rest =
+    let same = sheet-long buffer (buffer ++ rest) h (omega (arith, length-append buffer rest)) in
+    record {
+      long = r .long ∙ ap (λ (e : Entered). placedLength (recordOf (e .report)) before) same;
+      text = r .text ∙ ap (λ (e : Entered). placed (recordOf (e .report)) before) same;
+    }
+
+pub answers-within : (filled : Filled) (buffer before : List ℕ) (n : ℕ) (after : List ℕ) → Answers filled buffer before n after
+    → n ≤ length after
+answers-within Filled.Full buffer before n after a = let r = a [] in written-within _ _ _ _ (r .long) (r .text)
+answers-within (Filled.Ended k) buffer before n after r = written-within _ _ _ _ (r .long) (r .text)
+answers-within Filled.Failed buffer before n after r = omega arith
