@@ -126,7 +126,7 @@ impl Search {
     pub fn fresh(opening: Opening) -> Entered
         ensures { λ r. ⌜ r ≡ openOf opening ⌝ }
     {
-        let n = walk::opening_refusal(opening);
+        let n = refusals::opening_refusal(opening);
         if n != 0 {
             let nothing = Opening {
                 method: 0,
@@ -142,7 +142,7 @@ impl Search {
                 search: unanswered(nothing),
             };
         }
-        let point = interpolation::magnitude(opening.first);
+        let point = comparisons::magnitude(opening.first);
         Entered {
             report: Report::Next { point, taken: 0 },
             search: unanswered(opening),
