@@ -128,7 +128,7 @@ impl Search {
         ensures { λ r. ⌜ r ≡ reopenOf self opening ⌝ }
     {
         let fresh = unanswered(opening);
-        let n = walk::opening_refusal(opening);
+        let n = refusals::opening_refusal(opening);
         if n != 0 {
             return Entered {
                 report: Report::Refused {
@@ -138,7 +138,7 @@ impl Search {
                 search: self,
             };
         }
-        let point = interpolation::magnitude(opening.first);
+        let point = comparisons::magnitude(opening.first);
         Entered {
             report: Report::Next { point, taken: 0 },
             search: fresh,

@@ -73,7 +73,7 @@ fn outcome(e: Entries) -> Entered
     requires { ⌜ e .count ≤ slots ⌝ }
     ensures { λ r. ⌜ r ≡ outcomeOf e ⌝ }
 {
-    let refused = walk::opening_refusal(e.opening);
+    let refused = refusals::opening_refusal(e.opening);
     if refused != 0 {
         return refuse(refused, 1);
     }
