@@ -170,7 +170,8 @@ pub extern "C" fn busdekker_ask(search: &Search) -> Row
 pub extern "C" fn busdekker_values(opening: Opening, values: &[i32]) -> Row
     ensures { λ r. ⌜ r ≡ rowOf (reportOf opening (now (values .entry))) ⌝ }
 {
-    printing::row_of(search::report_on(opening, values))
+    let listed = search::report_on(opening, values);
+    printing::row_of(listed)
 }
 
 // The outcome of a trial sheet; the place of a refusal is a record.
