@@ -80,7 +80,7 @@ fn step_open(search: Search, opening: Opening) -> Answered
 fn step_enter(search: Search, point: i32, value: i32) -> Written
     ensures { λ r. ⌜ r ≡ writtenOf (verdictOf search point value) ⌝ }
 {
-    let v = held::judge(search, point, value);
+    let v = lent::judge(search, point, value);
     let report = v.report;
     Written {
         report: printing::row_of(report),

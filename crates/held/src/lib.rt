@@ -106,13 +106,6 @@ pub fn judge_parts(
     }
 }
 
-// The same of a search.
-pub fn judge(s: Search, point: i32, value: i32) -> Verdict
-    ensures { λ r. ⌜ r ≡ verdictOf s point value ⌝ }
-{
-    judge_parts(s.opening, s.count, &s.slots, point, value)
-}
-
 impl Search {
     // The limits: of a point, of the tolerance, of a value above and below 0, and of the answers kept.
     pub const HIGHEST: u32 = rules::HIGHEST;
