@@ -48,6 +48,15 @@ pub fn any_opening(rng: &mut Rng) -> Opening {
     opening
 }
 
+/// An opening with something wrong in it, often more than one thing.
+pub fn refused_opening(rng: &mut Rng) -> Opening {
+    let mut opening = accepted_opening(rng);
+    while model::refused_opening(&opening).is_none() || rng.once_in(3) {
+        spoil(&mut opening, rng);
+    }
+    opening
+}
+
 /// Makes one of the four numbers wrong, or the ends equal.
 fn spoil(opening: &mut Opening, rng: &mut Rng) {
     match rng.below(5) {

@@ -1,105 +1,68 @@
-//! The C interface of the proved library behind safe functions. With the feature `standin` nothing
-//! is linked and plain.rs answers.
+//! The C interface of the proved library, include/busdekker.h, behind safe functions.
 
-#[cfg(feature = "standin")]
-pub use crate::plain::{enter, entered, open, quote, report, sheet, values};
+use crate::types::{Answered, Opening, Quotation, Report, Search};
 
 /// Who answers.
-#[cfg(feature = "standin")]
-pub const WHO: &str = "NOT the proved library but its stand-in, plain.rs";
+pub const WHO: &str = "the proved library, target/staticlib/libbusdekker.a";
 
-/// Who answers.
-#[cfg(not(feature = "standin"))]
-pub const WHO: &str = "the proved library, target/staticlib/libhost.a";
+/// The version of the interface that is declared here.
+pub const VERSION: u32 = 1;
 
-#[cfg(not(feature = "standin"))]
-pub use library::{enter, entered, open, quote, report, sheet, values};
+extern "C" {
+    fn busdekker_version() -> u32;
+    fn busdekker_quote(opening: Opening) -> Quotation;
+    fn busdekker_open(search: *mut Search, opening: Opening) -> Report;
+    fn busdekker_enter(search: *mut Search, point: i32, value: i32) -> Report;
+    fn busdekker_entered(search: Search, point: i32, value: i32) -> Answered;
+    fn busdekker_ask(search: *const Search) -> Report;
+    fn busdekker_values(opening: Opening, values: *const i32, length: usize) -> Report;
+    fn busdekker_sheet(text: *const u8, length: usize) -> Report;
+}
 
-#[cfg(not(feature = "standin"))]
-mod library {
-    use crate::types::{Numbers, Opening, Search, Stepped};
+/// The version of the interface that the library has.
+pub fn version() -> u32 {
+    // Nothing goes in, and a number comes out.
+    unsafe { busdekker_version() }
+}
 
-    extern "C" {
-        fn search_open(
-            search: *mut Search,
-            method: i32,
-            first: i32,
-            second: i32,
-            tolerance: i32,
-        ) -> Numbers;
-        fn search_report(search: *const Search) -> Numbers;
-        fn search_enter(search: *mut Search, point: i32, value: i32) -> Numbers;
-        fn search_entered(search: Search, point: i32, value: i32) -> Stepped;
-        fn search_values(
-            method: i32,
-            first: i32,
-            second: i32,
-            tolerance: i32,
-            values: *const i32,
-            n: usize,
-        ) -> Numbers;
-        fn search_quote(method: i32, first: i32, second: i32, tolerance: i32) -> Numbers;
-        fn search_sheet(text: *const u8, n: usize) -> Numbers;
-    }
+/// t and the most answers that may be needed.
+pub fn quote(opening: &Opening) -> Quotation {
+    // Numbers go in and numbers come out.
+    unsafe { busdekker_quote(*opening) }
+}
 
-    /// A fresh search in the host's own; all zeros if the opening is refused.
-    pub fn open(search: &mut Search, opening: &Opening) -> Numbers {
-        let Opening {
-            method,
-            first,
-            second,
-            tolerance,
-        } = *opening;
-        // The reference is to a whole search that nobody else reads or writes.
-        unsafe { search_open(search, method, first, second, tolerance) }
-    }
+/// A fresh search in the host's own, which stays as it is if the opening is refused.
+pub fn open(search: &mut Search, opening: &Opening) -> Report {
+    // The reference is to a whole search that nobody else reads or writes.
+    unsafe { busdekker_open(search, *opening) }
+}
 
-    /// The report of a held search.
-    pub fn report(search: &Search) -> Numbers {
-        // The reference is to a whole search, which is only read.
-        unsafe { search_report(search) }
-    }
+/// An answer entered into the host's own search.
+pub fn enter(search: &mut Search, point: i32, value: i32) -> Report {
+    // The reference is to a whole search that nobody else reads or writes.
+    unsafe { busdekker_enter(search, point, value) }
+}
 
-    /// An answer entered into the host's own search.
-    pub fn enter(search: &mut Search, point: i32, value: i32) -> Numbers {
-        // The reference is to a whole search that nobody else reads or writes.
-        unsafe { search_enter(search, point, value) }
-    }
+/// The same by value.
+pub fn entered(search: Search, point: i32, value: i32) -> Answered {
+    // A search goes in by value and comes out so.
+    unsafe { busdekker_entered(search, point, value) }
+}
 
-    /// The same by value.
-    pub fn entered(search: Search, point: i32, value: i32) -> Stepped {
-        // A search goes in by value and comes out so.
-        unsafe { search_entered(search, point, value) }
-    }
+/// The report of a held search.
+pub fn ask(search: &Search) -> Report {
+    // The reference is to a whole search, which is only read.
+    unsafe { busdekker_ask(search) }
+}
 
-    /// The report of the search over a list of values.
-    pub fn values(opening: &Opening, values: &[i32]) -> Numbers {
-        let Opening {
-            method,
-            first,
-            second,
-            tolerance,
-        } = *opening;
-        let (start, n) = (values.as_ptr(), values.len());
-        // `start` and `n` are those of a slice, which is only read.
-        unsafe { search_values(method, first, second, tolerance, start, n) }
-    }
+/// The report of the search over a list of values.
+pub fn values(opening: &Opening, values: &[i32]) -> Report {
+    // The pointer and the length are those of a slice, which is only read.
+    unsafe { busdekker_values(*opening, values.as_ptr(), values.len()) }
+}
 
-    /// t and the most answers that may be needed.
-    pub fn quote(opening: &Opening) -> Numbers {
-        let Opening {
-            method,
-            first,
-            second,
-            tolerance,
-        } = *opening;
-        // Numbers go in and numbers come out.
-        unsafe { search_quote(method, first, second, tolerance) }
-    }
-
-    /// The program's report of a sheet. Places are record numbers.
-    pub fn sheet(text: &[u8]) -> Numbers {
-        // The pointer and the length are those of a slice, which is only read.
-        unsafe { search_sheet(text.as_ptr(), text.len()) }
-    }
+/// The program's report of a sheet. Places are record numbers.
+pub fn sheet(text: &[u8]) -> Report {
+    // The pointer and the length are those of a slice, which is only read.
+    unsafe { busdekker_sheet(text.as_ptr(), text.len()) }
 }

@@ -1,5 +1,6 @@
-//! The comparison: the proved library against the model, from a fixed seed. It ends with the number
-//! of cases and exit status 0, or with the first mismatch and exit status 1.
+//! The comparison: the proved library against the model, from a fixed seed. Each part tells how many
+//! cases it tried, of what, and what the library answered. It ends with the number of cases and exit
+//! status 0, or with the first mismatch and exit status 1.
 
 #![forbid(unsafe_code)]
 
@@ -7,7 +8,7 @@ use compare::cases::{self, Oven};
 use compare::ffi;
 use compare::model::{self, Book};
 use compare::rng::Rng;
-use compare::types::{Numbers, Opening, Search};
+use compare::types::{Opening, Quotation, Report, Search};
 use compare::{beam, sheets};
 use std::fmt::{self, Debug};
 use std::process::ExitCode;
@@ -15,7 +16,8 @@ use std::time::Instant;
 
 const SEED: u64 = 1975;
 const LISTS: usize = 500_000;
-const RUNS: usize = 500_000;
+const RUNS: usize = 250_000;
+const HELD: usize = 250_000;
 const SHEETS: usize = 600_000;
 
 /// The states that the beam keeps, for the widest search and for each of the others.
@@ -34,6 +36,13 @@ type Part = fn(&mut Rng, &mut Tally) -> Checked;
 
 fn main() -> ExitCode {
     println!("compare: seed {SEED}; what answers is {}", ffi::WHO);
+    if ffi::version() != ffi::VERSION {
+        println!(
+            "compare: the library's interface is of version {}",
+            ffi::version()
+        );
+        return ExitCode::FAILURE;
+    }
     match compare(&mut Rng::new(SEED)) {
         Ok(cases) => {
             println!("compare: {cases} cases, 0 mismatches");
@@ -50,11 +59,12 @@ fn main() -> ExitCode {
 /// All parts in turn, and the number of cases.
 fn compare(rng: &mut Rng) -> Result<u64, String> {
     let mut cases = 0;
-    let parts: [(&str, Part); 5] = [
+    let parts: [(&str, Part); 6] = [
         ("lists of values", lists),
-        ("runs of calls", runs),
+        ("runs of the trial book, from a fresh search", runs),
+        ("calls in a row on searches that hold anything", held),
         ("sheets", any_sheets),
-        ("long orders of values", long_orders),
+        ("orders of values that make searches long", long_orders),
         ("quotes", quotes),
     ];
     for (name, part) in parts {
@@ -62,7 +72,7 @@ fn compare(rng: &mut Rng) -> Result<u64, String> {
         let mut tally = Tally::default();
         part(rng, &mut tally)?;
         let seconds = start.elapsed().as_secs_f32();
-        println!("{name}: {} in {seconds:.1} s; {tally}", tally.cases);
+        println!("{} {name} ({seconds:.1} s); {tally}", tally.cases);
         cases += tally.cases;
     }
     Ok(cases)
@@ -74,22 +84,40 @@ struct Tally {
     cases: u64,
     next: u64,
     stop: u64,
+    quoted: u64,
     refused: [u64; 13],
 }
 
 impl Tally {
-    fn count(&mut self, report: &Numbers) {
+    fn count(&mut self, report: &Report) {
         match report.kind {
-            Numbers::NEXT => self.next += 1,
-            Numbers::STOP => self.stop += 1,
-            _ => self.refused[report.a as usize] += 1,
+            Report::NEXT => self.next += 1,
+            Report::STOP => self.stop += 1,
+            _ => self.refused[report.number as usize] += 1,
+        }
+    }
+
+    fn count_quotation(&mut self, quotation: &Quotation) {
+        match quotation.kind {
+            Quotation::QUOTED => self.quoted += 1,
+            _ => self.refused[quotation.number as usize] += 1,
         }
     }
 }
 
 impl fmt::Display for Tally {
     fn fmt(&self, f: &mut fmt::Formatter) -> fmt::Result {
-        write!(f, "answered next {}, stop {}", self.next, self.stop)?;
+        let refused: u64 = self.refused.iter().sum();
+        let told = self.next + self.stop + self.quoted + refused;
+        write!(f, "told {told}")?;
+        let kinds = [
+            ("next", self.next),
+            ("stop", self.stop),
+            ("quoted", self.quoted),
+        ];
+        for (kind, times) in kinds.iter().filter(|(_, times)| *times > 0) {
+            write!(f, ", {kind} {times}")?;
+        }
         let refused = self.refused.iter().enumerate();
         for (number, times) in refused.filter(|(_, &times)| times > 0) {
             write!(f, ", refuse {number} {times}")?;
@@ -112,16 +140,16 @@ fn agree<T: PartialEq + Debug>(model: T, library: T, input: impl Fn() -> String)
 /// The same for two reports, which are counted, with the bound on the answers.
 fn agree_on_report(
     opening: &Opening,
-    (model, library): (Numbers, Numbers),
+    (model, library): (Report, Report),
     tally: &mut Tally,
     input: impl Fn() -> String,
 ) -> Checked {
     agree(model, library, &input)?;
     tally.count(&library);
-    let most = model::quote(opening).b;
+    let most = model::quote(opening).most;
     let kept = match library.kind {
-        Numbers::NEXT => library.b < most,
-        Numbers::STOP => library.d <= most,
+        Report::NEXT => library.taken < most,
+        Report::STOP => library.taken <= most,
         _ => true,
     };
     if !kept {
@@ -150,7 +178,7 @@ fn list_as_sheet(opening: &Opening, values: &[i32]) -> String {
 #[derive(Clone, Copy, Debug)]
 enum Call {
     Open(Opening),
-    Report,
+    Ask,
     Enter(i32, i32),
 }
 
@@ -177,20 +205,18 @@ fn list_agrees(opening: &Opening, values: &[i32], tally: &mut Tally) -> Checked 
     agree_on_report(opening, reports, tally, || list_as_sheet(opening, values))
 }
 
-/// Runs of calls: by turns one from a fresh search, and one from a search that holds anything.
+/// Runs of calls as the trial book speaks of them.
 fn runs(rng: &mut Rng, tally: &mut Tally) -> Checked {
-    for k in 0..RUNS {
-        match k % 2 {
-            0 => fresh_run(rng, tally)?,
-            _ => junk_run(rng, tally)?,
-        }
+    for _ in 0..RUNS {
+        run_agrees(rng, tally)?;
         tally.cases += 1;
     }
     Ok(())
 }
 
-/// A run as the trial book speaks of it, with every call's report and the whole search after it.
-fn fresh_run(rng: &mut Rng, tally: &mut Tally) -> Checked {
+/// One run, with every call's report and the whole search after it. Now and then an opening that is
+/// refused is offered to the search on its way, and changes nothing.
+fn run_agrees(rng: &mut Rng, tally: &mut Tally) -> Checked {
     let mut book = Book::new(cases::accepted_opening(rng));
     let oven = Oven::new(book.opening(), rng);
     let mut search = cases::any_search(rng);
@@ -209,8 +235,32 @@ fn fresh_run(rng: &mut Rng, tally: &mut Tally) -> Checked {
             }
         };
         call_agrees(&mut book, &mut search, (point, value), tally)?;
+        if rng.once_in(16) {
+            refused_opening_agrees(&book, &mut search, rng, tally)?;
+        }
     }
     ends_agree(&book, rng, tally)
+}
+
+/// A refused opening offered to a search on its way: the refusal is the model's, and the search stays
+/// the book's.
+fn refused_opening_agrees(
+    book: &Book,
+    search: &mut Search,
+    rng: &mut Rng,
+    tally: &mut Tally,
+) -> Checked {
+    let before = *search;
+    let opening = cases::refused_opening(rng);
+    let input = || search_as_sheet(&before, Call::Open(opening));
+    let mut model = book.search();
+    let reports = (
+        model::open(&mut model, &opening),
+        ffi::open(search, &opening),
+    );
+    agree(reports.0, reports.1, input)?;
+    tally.count(&reports.1);
+    search_agrees(book, ffi::ask(search), search, tally, input)
 }
 
 /// An answer to offer: mostly the one called for.
@@ -236,21 +286,21 @@ fn call_agrees(
 ) -> Checked {
     let before = *search;
     let input = || search_as_sheet(&before, Call::Enter(point, value));
-    let stepped = ffi::entered(before, point, value);
+    let answered = ffi::entered(before, point, value);
     let reports = (book.offer(point, value), ffi::enter(search, point, value));
     agree_on_report(book.opening(), reports, tally, input)?;
     agree(
         (reports.0, book.search()),
-        (stepped.numbers, stepped.search),
+        (answered.report, answered.search),
         input,
     )?;
-    search_agrees(book, ffi::report(search), search, tally, input)
+    search_agrees(book, ffi::ask(search), search, tally, input)
 }
 
 /// The search and its report, after the call that `input` tells of, are the book's.
 fn search_agrees(
     book: &Book,
-    report: Numbers,
+    report: Report,
     search: &Search,
     tally: &mut Tally,
     input: impl Fn() -> String,
@@ -269,20 +319,29 @@ fn ends_agree(book: &Book, rng: &mut Rng, tally: &mut Tally) -> Checked {
     agree_on_report(opening, reports, tally, || sheets::show(&text))
 }
 
+/// Searches that hold anything.
+fn held(rng: &mut Rng, tally: &mut Tally) -> Checked {
+    for _ in 0..HELD {
+        held_agrees(rng, tally)?;
+        tally.cases += 1;
+    }
+    Ok(())
+}
+
 /// A few calls on a search that holds anything, each on the model's copy and on the library's, with
 /// its report, the whole search after it, and that search's report.
-fn junk_run(rng: &mut Rng, tally: &mut Tally) -> Checked {
+fn held_agrees(rng: &mut Rng, tally: &mut Tally) -> Checked {
     let mut model = cases::any_search(rng);
     let mut library = model;
     for _ in 0..1 + rng.below(5) {
         let before = model;
-        let call = junk_call(&model, rng);
+        let call = any_call(&model, rng);
         let reports = match call {
             Call::Open(opening) => (
                 model::open(&mut model, &opening),
                 ffi::open(&mut library, &opening),
             ),
-            Call::Report => (model::report(&model), ffi::report(&library)),
+            Call::Ask => (model::ask(&model), ffi::ask(&library)),
             Call::Enter(point, value) => (
                 model::enter(&mut model, point, value),
                 ffi::enter(&mut library, point, value),
@@ -292,11 +351,15 @@ fn junk_run(rng: &mut Rng, tally: &mut Tally) -> Checked {
         agree_on_report(&model.opening, reports, tally, input)?;
         agree(model, library, input)?;
         if let Call::Enter(point, value) = call {
-            let stepped = ffi::entered(before, point, value);
-            agree((reports.0, model), (stepped.numbers, stepped.search), input)?;
+            let answered = ffi::entered(before, point, value);
+            agree(
+                (reports.0, model),
+                (answered.report, answered.search),
+                input,
+            )?;
         }
-        let reports = (model::report(&model), ffi::report(&library));
-        let input = || search_as_sheet(&model, Call::Report);
+        let reports = (model::ask(&model), ffi::ask(&library));
+        let input = || search_as_sheet(&model, Call::Ask);
         agree_on_report(&model.opening, reports, tally, input)?;
     }
     Ok(())
@@ -304,15 +367,15 @@ fn junk_run(rng: &mut Rng, tally: &mut Tally) -> Checked {
 
 /// A call for a search that holds anything: mostly an answer, and that mostly at the point called
 /// for.
-fn junk_call(search: &Search, rng: &mut Rng) -> Call {
+fn any_call(search: &Search, rng: &mut Rng) -> Call {
     match rng.below(8) {
         0 => return Call::Open(cases::any_opening(rng)),
-        1 => return Call::Report,
+        1 => return Call::Ask,
         _ => (),
     }
-    let report = model::report(search);
+    let report = model::ask(search);
     let called = match report.kind {
-        Numbers::NEXT => report.a as i32,
+        Report::NEXT => report.point as i32,
         _ => 0,
     };
     let point = match rng.below(8) {
@@ -341,7 +404,7 @@ fn long_orders(rng: &mut Rng, tally: &mut Tally) -> Checked {
         let orders = beam::longest(&opening, WIDE, rng);
         orders_agree(&opening, &orders, tally)?;
         branches_agree(&opening, &orders, rng, tally)?;
-        let most = model::quote(&opening).b;
+        let most = model::quote(&opening).most;
         let longest = &orders[0];
         println!(
             "longest search by {name} found: {} answers, the bound is {most}: {longest:?}",
@@ -408,7 +471,7 @@ fn quotes(rng: &mut Rng, tally: &mut Tally) -> Checked {
 fn quote_agrees(opening: &Opening, tally: &mut Tally) -> Checked {
     let (model, library) = (model::quote(opening), ffi::quote(opening));
     agree(model, library, || list_as_sheet(opening, &[]))?;
-    tally.count(&library);
+    tally.count_quotation(&library);
     tally.cases += 1;
     Ok(())
 }

@@ -1,7 +1,7 @@
 //! The model, from document 01 alone. Slow and plain: exact fractions, brackets kept in a list, the
 //! streak found by looking back over that list, and every report worked out from the beginning.
 
-use crate::types::{Numbers, Opening, Search, SLOTS};
+use crate::types::{Opening, Quotation, Report, Search, SLOTS};
 use std::cmp::Ordering;
 
 /// An exact fraction. The denominator is above 0.
@@ -207,13 +207,13 @@ fn stand(opening: &Opening, answers: &[Answer]) -> Stand {
 }
 
 /// The report of answers that were all accepted.
-fn report_of(opening: &Opening, answers: &[Answer]) -> Numbers {
+fn report_of(opening: &Opening, answers: &[Answer]) -> Report {
     let taken = answers.len() as u32;
     match stand(opening, answers) {
-        Stand::Call(point) => Numbers::next(point as u32, taken),
+        Stand::Call(point) => Report::next(point as u32, taken),
         Stand::Stop(Bracket { b, c, .. }) => {
             let (lower, upper) = (b.point.min(c.point), b.point.max(c.point));
-            Numbers::stop(lower as u32, upper as u32, b.point as u32, taken)
+            Report::stop(lower as u32, upper as u32, b.point as u32, taken)
         }
     }
 }
@@ -245,13 +245,13 @@ fn same_side(answers: &[Answer], value: i32) -> bool {
 }
 
 /// The search over a list of values: the answers that they make, or the refusal and its index.
-fn walk(opening: &Opening, values: &[i32]) -> Result<Vec<Answer>, Numbers> {
+fn walk(opening: &Opening, values: &[i32]) -> Result<Vec<Answer>, Report> {
     if let Some(number) = refused_opening(opening) {
-        return Err(Numbers::refuse(number, 0));
+        return Err(Report::refuse(number, 0));
     }
     let mut answers = Vec::new();
     for (index, &value) in values.iter().enumerate() {
-        let refuse = |number| Err(Numbers::refuse(number, index as u32));
+        let refuse = |number| Err(Report::refuse(number, index as u32));
         let Stand::Call(point) = stand(opening, &answers) else {
             return refuse(5);
         };
@@ -268,31 +268,29 @@ fn walk(opening: &Opening, values: &[i32]) -> Result<Vec<Answer>, Numbers> {
 }
 
 /// The report of the search over a list of values.
-pub fn values(opening: &Opening, values: &[i32]) -> Numbers {
+pub fn values(opening: &Opening, values: &[i32]) -> Report {
     match walk(opening, values) {
         Ok(answers) => report_of(opening, &answers),
         Err(refusal) => refusal,
     }
 }
 
-/// A fresh search in the host's own; all zeros if the opening is refused.
-pub fn open(search: &mut Search, opening: &Opening) -> Numbers {
-    let report = values(opening, &[]);
-    *search = match report.kind {
-        Numbers::REFUSE => Search::ZERO,
-        _ => Search::fresh(*opening),
-    };
-    report
+/// A fresh search in the host's own, which stays as it is if the opening is refused.
+pub fn open(search: &mut Search, opening: &Opening) -> Report {
+    if refused_opening(opening).is_none() {
+        *search = Search::fresh(*opening);
+    }
+    values(opening, &[])
 }
 
 /// The values that a search holds. Refusal 9 if it says that it holds more than it has slots.
-fn held(search: &Search) -> Result<&[i32], Numbers> {
+fn held(search: &Search) -> Result<&[i32], Report> {
     let count = search.count as usize;
-    search.slots.get(..count).ok_or(Numbers::refuse(9, 0))
+    search.slots.get(..count).ok_or(Report::refuse(9, 0))
 }
 
 /// The report of a held search.
-pub fn report(search: &Search) -> Numbers {
+pub fn ask(search: &Search) -> Report {
     match held(search) {
         Ok(list) => values(&search.opening, list),
         Err(refusal) => refusal,
@@ -300,24 +298,24 @@ pub fn report(search: &Search) -> Numbers {
 }
 
 /// An answer entered into the host's own search.
-pub fn enter(search: &mut Search, point: i32, value: i32) -> Numbers {
+pub fn enter(search: &mut Search, point: i32, value: i32) -> Report {
     match offered(search, point, value) {
         Some(refusal) => refusal,
         None => {
             search.slots[search.count as usize] = value;
             search.count += 1;
-            report(search)
+            ask(search)
         }
     }
 }
 
 /// The refusal, if there is one, of an answer offered to a held search. What is held comes first.
-fn offered(search: &Search, point: i32, value: i32) -> Option<Numbers> {
+fn offered(search: &Search, point: i32, value: i32) -> Option<Report> {
     let answers = match held(search).and_then(|list| walk(&search.opening, list)) {
         Ok(answers) => answers,
         Err(refusal) => return Some(refusal),
     };
-    let refuse = |number| Some(Numbers::refuse(number, search.count));
+    let refuse = |number| Some(Report::refuse(number, search.count));
     match stand(&search.opening, &answers) {
         Stand::Stop(_) => refuse(5),
         Stand::Call(called) if called != i128::from(point) => refuse(6),
@@ -328,15 +326,15 @@ fn offered(search: &Search, point: i32, value: i32) -> Option<Numbers> {
 }
 
 /// Demand 3's t, the least for which τ·2^(t+1) reaches the distance, and the most answers.
-pub fn quote(opening: &Opening) -> Numbers {
+pub fn quote(opening: &Opening) -> Quotation {
     if let Some(number) = refused_opening(opening) {
-        return Numbers::refuse(number, 0);
+        return Quotation::refuse(number);
     }
     let distance = i64::from(opening.first.abs_diff(opening.second));
     let enough = |t: &u32| i64::from(opening.tolerance) << (t + 1) >= distance;
     let t = (0..).find(enough).expect("there is a least t");
     let steps = if opening.method == 2 { 5 } else { 4 };
-    Numbers::quote(t, 2 + steps * t)
+    Quotation::quote(t, 2 + steps * t)
 }
 
 /// The trial book: a list of answers. It is fed the opening and the answers offered, nothing else.
@@ -384,7 +382,7 @@ impl Book {
         self.answers.iter().map(|x| x.value as i32).collect()
     }
 
-    pub fn report(&self) -> Numbers {
+    pub fn report(&self) -> Report {
         report_of(&self.opening, &self.answers)
     }
 
@@ -402,7 +400,7 @@ impl Book {
     }
 
     /// An offered answer is tried against the row "Each answer in turn", in its order.
-    pub fn offer(&mut self, point: i32, value: i32) -> Numbers {
+    pub fn offer(&mut self, point: i32, value: i32) -> Report {
         let n = self.answers.len();
         let called = self.called();
         let new = Answer {
@@ -417,7 +415,7 @@ impl Book {
             (8, n == 1 && matches!(signs(), (1, 1) | (-1, -1))),
         ];
         if let Some((number, _)) = row.iter().find(|(_, applies)| *applies) {
-            return Numbers::refuse(*number, n as u32);
+            return Report::refuse(*number, n as u32);
         }
         self.answers.push(new);
         self.report()
@@ -434,7 +432,7 @@ impl Book {
 }
 
 /// The sheet reader: the program's report of a text. Places are record numbers.
-pub fn sheet(text: &[u8]) -> Numbers {
+pub fn sheet(text: &[u8]) -> Report {
     let rows = match rows(text) {
         Ok(rows) => rows,
         Err(refusal) => return refusal,
@@ -442,7 +440,7 @@ pub fn sheet(text: &[u8]) -> Numbers {
     let head = &rows[0];
     let opening = Opening::new(head[0], head[1], head[2], head[3]);
     if let Some(number) = refused_opening(&opening) {
-        return Numbers::refuse(number, 1);
+        return Report::refuse(number, 1);
     }
     let mut taken: Vec<Answer> = Vec::new();
     for (row, record) in rows[1..].iter().zip(2..) {
@@ -457,31 +455,31 @@ pub fn sheet(text: &[u8]) -> Numbers {
                 continue;
             }
         };
-        return Numbers::refuse(cause, record);
+        return Report::refuse(cause, record);
     }
     report_of(&opening, &taken)
 }
 
 /// The whole text and each record in turn: the numbers of each record, or refusal 10, 11 or 12.
-fn rows(text: &[u8]) -> Result<Vec<Vec<i32>>, Numbers> {
+fn rows(text: &[u8]) -> Result<Vec<Vec<i32>>, Report> {
     if text.len() > 4_096 {
-        return Err(Numbers::refuse(10, 0));
+        return Err(Report::refuse(10, 0));
     }
     let mut rows = Vec::new();
     for record in records(text) {
         let number = rows.len() + 1;
         // Record 1 is the opening, so that the 73rd answer record is record 74.
         if number == SLOTS + 2 {
-            return Err(Numbers::refuse(11, number as u32));
+            return Err(Report::refuse(11, number as u32));
         }
         let fields = if number == 1 { 4 } else { 2 };
         match row(record, fields) {
             Some(row) => rows.push(row),
-            None => return Err(Numbers::refuse(12, number as u32)),
+            None => return Err(Report::refuse(12, number as u32)),
         }
     }
     match rows.len() {
-        0 => Err(Numbers::refuse(12, 1)),
+        0 => Err(Report::refuse(12, 1)),
         _ => Ok(rows),
     }
 }

@@ -1,7 +1,7 @@
 //! The same search as a Rust programmer would write it for speed: a running state, 64-bit
-//! arithmetic, nothing on the heap. It is the benchmark's baseline and the library's stand-in.
+//! arithmetic, nothing on the heap. It is the benchmark's baseline.
 
-use crate::types::{Numbers, Opening, Search, Stepped, SLOTS};
+use crate::types::{Answered, Opening, Quotation, Report, Search, SLOTS};
 
 const HIGHEST_POINT: i32 = 20_000;
 const LARGEST_TOLERANCE: i32 = 5_000;
@@ -58,11 +58,11 @@ impl Walk {
     }
 
     /// The walk after these values, or the refusal.
-    fn along(opening: &Opening, values: &[i32]) -> Result<Walk, Numbers> {
-        let mut walk = Walk::new(opening).map_err(|number| Numbers::refuse(number, 0))?;
+    fn along(opening: &Opening, values: &[i32]) -> Result<Walk, Report> {
+        let mut walk = Walk::new(opening).map_err(|number| Report::refuse(number, 0))?;
         for &value in values {
             walk.take(value)
-                .map_err(|number| Numbers::refuse(number, walk.taken))?;
+                .map_err(|number| Report::refuse(number, walk.taken))?;
         }
         Ok(walk)
     }
@@ -90,12 +90,12 @@ impl Walk {
         self.b.f
     }
 
-    pub fn report(&self) -> Numbers {
+    pub fn report(&self) -> Report {
         if self.stopped {
             let (b, c) = (self.b.x, self.c.x);
-            Numbers::stop(b.min(c) as u32, b.max(c) as u32, b as u32, self.taken)
+            Report::stop(b.min(c) as u32, b.max(c) as u32, b as u32, self.taken)
         } else {
-            Numbers::next(self.call as u32, self.taken)
+            Report::next(self.call as u32, self.taken)
         }
     }
 
@@ -249,30 +249,27 @@ fn check(opening: &Opening) -> Result<(), u32> {
     }
 }
 
-/// A fresh search in the host's own; all zeros if the opening is refused.
-pub fn open(search: &mut Search, opening: &Opening) -> Numbers {
+/// A fresh search in the host's own, which stays as it is if the opening is refused.
+pub fn open(search: &mut Search, opening: &Opening) -> Report {
     match Walk::new(opening) {
         Ok(walk) => {
             *search = Search::fresh(*opening);
             walk.report()
         }
-        Err(number) => {
-            *search = Search::ZERO;
-            Numbers::refuse(number, 0)
-        }
+        Err(number) => Report::refuse(number, 0),
     }
 }
 
 /// The walk of what a search holds, or the refusal.
-fn held(search: &Search) -> Result<Walk, Numbers> {
+fn held(search: &Search) -> Result<Walk, Report> {
     match search.slots.get(..search.count as usize) {
         Some(list) => Walk::along(&search.opening, list),
-        None => Err(Numbers::refuse(9, 0)),
+        None => Err(Report::refuse(9, 0)),
     }
 }
 
 /// The report of a held search.
-pub fn report(search: &Search) -> Numbers {
+pub fn ask(search: &Search) -> Report {
     match held(search) {
         Ok(walk) => walk.report(),
         Err(refusal) => refusal,
@@ -280,7 +277,7 @@ pub fn report(search: &Search) -> Numbers {
 }
 
 /// An answer entered into the host's own search.
-pub fn enter(search: &mut Search, point: i32, value: i32) -> Numbers {
+pub fn enter(search: &mut Search, point: i32, value: i32) -> Report {
     let mut walk = match held(search) {
         Ok(walk) => walk,
         Err(refusal) => return refusal,
@@ -291,18 +288,18 @@ pub fn enter(search: &mut Search, point: i32, value: i32) -> Numbers {
             search.count += 1;
             walk.report()
         }
-        Err(number) => Numbers::refuse(number, search.count),
+        Err(number) => Report::refuse(number, search.count),
     }
 }
 
 /// The same by value.
-pub fn entered(mut search: Search, point: i32, value: i32) -> Stepped {
-    let numbers = enter(&mut search, point, value);
-    Stepped { numbers, search }
+pub fn entered(mut search: Search, point: i32, value: i32) -> Answered {
+    let report = enter(&mut search, point, value);
+    Answered { report, search }
 }
 
 /// The report of the search over a list of values.
-pub fn values(opening: &Opening, values: &[i32]) -> Numbers {
+pub fn values(opening: &Opening, values: &[i32]) -> Report {
     match Walk::along(opening, values) {
         Ok(walk) => walk.report(),
         Err(refusal) => refusal,
@@ -310,23 +307,23 @@ pub fn values(opening: &Opening, values: &[i32]) -> Numbers {
 }
 
 /// t and the most answers that may be needed.
-pub fn quote(opening: &Opening) -> Numbers {
+pub fn quote(opening: &Opening) -> Quotation {
     match check(opening) {
         Ok(()) => {
             let width = opening.first.abs_diff(opening.second);
             let whole = (width - 1) / (2 * opening.tolerance as u32);
             let t = u32::BITS - whole.leading_zeros();
             let steps = if opening.method == 2 { 5 } else { 4 };
-            Numbers::quote(t, 2 + steps * t)
+            Quotation::quote(t, 2 + steps * t)
         }
-        Err(number) => Numbers::refuse(number, 0),
+        Err(number) => Quotation::refuse(number),
     }
 }
 
 /// The program's report of a sheet. Places are record numbers.
-pub fn sheet(text: &[u8]) -> Numbers {
+pub fn sheet(text: &[u8]) -> Report {
     if text.len() > LONGEST_TEXT {
-        return Numbers::refuse(10, 0);
+        return Report::refuse(10, 0);
     }
     let mut answers = [(0, 0); SLOTS];
     let (opening, count) = match read(text, &mut answers) {
@@ -335,25 +332,25 @@ pub fn sheet(text: &[u8]) -> Numbers {
     };
     let mut walk = match Walk::new(&opening) {
         Ok(walk) => walk,
-        Err(number) => return Numbers::refuse(number, 1),
+        Err(number) => return Report::refuse(number, 1),
     };
     for &(point, value) in &answers[..count] {
         if let Err(number) = walk.take_at(point, value) {
-            return Numbers::refuse(number, walk.taken + 2);
+            return Report::refuse(number, walk.taken + 2);
         }
     }
     walk.report()
 }
 
 /// Reads the records: the opening and how many answers there are, or refusal 11 or 12.
-fn read(text: &[u8], answers: &mut [(i32, i32); SLOTS]) -> Result<(Opening, usize), Numbers> {
+fn read(text: &[u8], answers: &mut [(i32, i32); SLOTS]) -> Result<(Opening, usize), Report> {
     let mut reader = Reader { rest: text };
-    let opening = reader.opening().ok_or(Numbers::refuse(12, 1))?;
+    let opening = reader.opening().ok_or(Report::refuse(12, 1))?;
     let mut count = 0;
     while !reader.rest.is_empty() {
         let record = count as u32 + 2;
-        let slot = answers.get_mut(count).ok_or(Numbers::refuse(11, record))?;
-        *slot = reader.answer().ok_or(Numbers::refuse(12, record))?;
+        let slot = answers.get_mut(count).ok_or(Report::refuse(11, record))?;
+        *slot = reader.answer().ok_or(Report::refuse(12, record))?;
         count += 1;
     }
     Ok((opening, count))

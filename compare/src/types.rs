@@ -1,6 +1,7 @@
 //! The data that the C interface, the model and the plain code have in common. No rule is here.
 
 use std::fmt;
+use std::mem::{offset_of, size_of};
 
 /// The slots of a held search.
 pub const SLOTS: usize = 72;
@@ -44,81 +45,156 @@ impl Search {
             slots: [0; SLOTS],
         }
     }
-
-    /// All zeros.
-    pub const ZERO: Search = Search::fresh(Opening::new(0, 0, 0, 0));
 }
 
-/// A report in numbers. Kind 1, next: point, taken. Kind 2, stop: lower, upper, better, taken.
-/// Kind 3, refuse: number, place. Those not used are 0.
+/// A report. A number that its kind has not is 0.
 #[repr(C)]
 #[derive(Clone, Copy, Debug, PartialEq, Eq)]
-pub struct Numbers {
+pub struct Report {
     pub kind: u32,
-    pub a: u32,
-    pub b: u32,
-    pub c: u32,
-    pub d: u32,
+    pub point: u32,
+    pub lower: u32,
+    pub upper: u32,
+    pub better: u32,
+    pub taken: u32,
+    pub number: u32,
+    pub place: u32,
+}
+
+impl Report {
+    pub const NEXT: u32 = 1;
+    pub const STOP: u32 = 2;
+    pub const REFUSED: u32 = 3;
+
+    const NONE: Report = Report {
+        kind: 0,
+        point: 0,
+        lower: 0,
+        upper: 0,
+        better: 0,
+        taken: 0,
+        number: 0,
+        place: 0,
+    };
+
+    pub const fn next(point: u32, taken: u32) -> Self {
+        Report {
+            kind: Self::NEXT,
+            point,
+            taken,
+            ..Self::NONE
+        }
+    }
+
+    pub const fn stop(lower: u32, upper: u32, better: u32, taken: u32) -> Self {
+        Report {
+            kind: Self::STOP,
+            lower,
+            upper,
+            better,
+            taken,
+            ..Self::NONE
+        }
+    }
+
+    pub const fn refuse(number: u32, place: u32) -> Self {
+        Report {
+            kind: Self::REFUSED,
+            number,
+            place,
+            ..Self::NONE
+        }
+    }
+}
+
+/// The record that the program writes, without its CR LF.
+impl fmt::Display for Report {
+    fn fmt(&self, f: &mut fmt::Formatter) -> fmt::Result {
+        let Report {
+            kind,
+            point,
+            lower,
+            upper,
+            better,
+            taken,
+            number,
+            place,
+        } = self;
+        match *kind {
+            Self::NEXT => write!(f, "next,{point},{taken}"),
+            Self::STOP => write!(f, "stop,{lower},{upper},{better},{taken}"),
+            Self::REFUSED => write!(f, "refuse,{number},{place}"),
+            _ => write!(f, "unknown kind {kind}"),
+        }
+    }
+}
+
+/// What is told of an opening before the first trial: t and the most answers that may be needed, or
+/// a refusal. A number that its kind has not is 0.
+#[repr(C)]
+#[derive(Clone, Copy, Debug, PartialEq, Eq)]
+pub struct Quotation {
+    pub kind: u32,
+    pub t: u32,
+    pub most: u32,
+    pub number: u32,
+    pub place: u32,
+}
+
+impl Quotation {
+    pub const QUOTED: u32 = 4;
+
+    pub const fn quote(t: u32, most: u32) -> Self {
+        Quotation {
+            kind: Self::QUOTED,
+            t,
+            most,
+            number: 0,
+            place: 0,
+        }
+    }
+
+    pub const fn refuse(number: u32) -> Self {
+        Quotation {
+            kind: Report::REFUSED,
+            t: 0,
+            most: 0,
+            number,
+            place: 0,
+        }
+    }
 }
 
 /// A report, and beside it the search as it then is.
 #[repr(C)]
 #[derive(Clone, Copy, Debug, PartialEq, Eq)]
-pub struct Stepped {
-    pub numbers: Numbers,
+pub struct Answered {
+    pub report: Report,
     pub search: Search,
 }
 
-impl Numbers {
-    pub const NEXT: u32 = 1;
-    pub const STOP: u32 = 2;
-    pub const REFUSE: u32 = 3;
-
-    pub const fn next(point: u32, taken: u32) -> Self {
-        Numbers {
-            kind: Self::NEXT,
-            a: point,
-            b: taken,
-            c: 0,
-            d: 0,
-        }
-    }
-
-    pub const fn stop(lower: u32, upper: u32, better: u32, taken: u32) -> Self {
-        Numbers {
-            kind: Self::STOP,
-            a: lower,
-            b: upper,
-            c: better,
-            d: taken,
-        }
-    }
-
-    pub const fn refuse(number: u32, place: u32) -> Self {
-        Numbers {
-            kind: Self::REFUSE,
-            a: number,
-            b: place,
-            c: 0,
-            d: 0,
-        }
-    }
-
-    /// A quote: t and the most answers that may be needed.
-    pub const fn quote(t: u32, most: u32) -> Self {
-        Self::next(t, most)
-    }
-}
-
-/// The record that the program writes, without its CR LF.
-impl fmt::Display for Numbers {
-    fn fmt(&self, f: &mut fmt::Formatter) -> fmt::Result {
-        let Numbers { kind, a, b, c, d } = self;
-        match *kind {
-            Self::NEXT => write!(f, "next,{a},{b}"),
-            Self::STOP => write!(f, "stop,{a},{b},{c},{d}"),
-            Self::REFUSE => write!(f, "refuse,{a},{b}"),
-            _ => write!(f, "kind {kind}: {a},{b},{c},{d}"),
-        }
-    }
-}
+// The layout that include/busdekker.h has.
+const _: () = {
+    assert!(size_of::<Opening>() == 16);
+    assert!(offset_of!(Opening, first) == 4);
+    assert!(offset_of!(Opening, second) == 8);
+    assert!(offset_of!(Opening, tolerance) == 12);
+    assert!(size_of::<Search>() == 308);
+    assert!(offset_of!(Search, count) == 16);
+    assert!(offset_of!(Search, slots) == 20);
+    assert!(size_of::<Report>() == 32);
+    assert!(offset_of!(Report, point) == 4);
+    assert!(offset_of!(Report, lower) == 8);
+    assert!(offset_of!(Report, upper) == 12);
+    assert!(offset_of!(Report, better) == 16);
+    assert!(offset_of!(Report, taken) == 20);
+    assert!(offset_of!(Report, number) == 24);
+    assert!(offset_of!(Report, place) == 28);
+    assert!(size_of::<Quotation>() == 20);
+    assert!(offset_of!(Quotation, t) == 4);
+    assert!(offset_of!(Quotation, most) == 8);
+    assert!(offset_of!(Quotation, number) == 12);
+    assert!(offset_of!(Quotation, place) == 16);
+    assert!(size_of::<Answered>() == 340);
+    assert!(offset_of!(Answered, search) == 32);
+};

@@ -1,19 +1,19 @@
-//! Document 01's worked trials, tried on the model, on the plain code and on the library (or its
-//! stand-in); then the model against the plain code on random cases.
+//! Document 01's worked trials, tried on the model, on the plain code and on the proved library; then
+//! the model against the plain code on random cases.
 
 use compare::cases;
 use compare::model::{self, Book};
 use compare::plain;
 use compare::rng::Rng;
 use compare::sheets;
-use compare::types::{Numbers, Opening, Search, SLOTS};
+use compare::types::{Opening, Quotation, Report, Search, SLOTS};
 use compare::{beam, ffi};
 
 const M: Opening = Opening::new(1, 0, 100, 1);
 const R: Opening = Opening::new(2, 0, 100, 1);
 
-type Values = fn(&Opening, &[i32]) -> Numbers;
-type Sheet = fn(&[u8]) -> Numbers;
+type Values = fn(&Opening, &[i32]) -> Report;
+type Sheet = fn(&[u8]) -> Report;
 
 /// Tries a list of values on all three, and on the book and a sheet if it is accepted.
 fn trial(opening: Opening, values: &[i32], report: &str) {
@@ -157,35 +157,40 @@ fn quotes() {
         let asked = |method, first, second, tolerance| {
             quote(&Opening::new(method, first, second, tolerance))
         };
-        assert_eq!(asked(1, 0, 20_000, 1), Numbers::quote(14, 58));
-        assert_eq!(asked(2, 20_000, 0, 1), Numbers::quote(14, 72));
-        assert_eq!(asked(0, 0, 2, 1), Numbers::quote(0, 2));
-        assert_eq!(asked(0, 0, 3, 1), Numbers::quote(1, 6));
-        assert_eq!(asked(2, 0, 3, 1), Numbers::quote(1, 7));
-        assert_eq!(asked(3, 0, 3, 1), Numbers::refuse(1, 0));
+        assert_eq!(asked(1, 0, 20_000, 1), Quotation::quote(14, 58));
+        assert_eq!(asked(2, 20_000, 0, 1), Quotation::quote(14, 72));
+        assert_eq!(asked(0, 0, 2, 1), Quotation::quote(0, 2));
+        assert_eq!(asked(0, 0, 3, 1), Quotation::quote(1, 6));
+        assert_eq!(asked(2, 0, 3, 1), Quotation::quote(1, 7));
+        assert_eq!(asked(3, 0, 3, 1), Quotation::refuse(1));
     }
 }
 
 #[test]
 fn held_searches() {
-    type Enter = fn(&mut Search, i32, i32) -> Numbers;
+    type Enter = fn(&mut Search, i32, i32) -> Report;
     let all = [
         (
-            model::open as fn(&mut Search, &Opening) -> Numbers,
-            model::report as fn(&Search) -> Numbers,
+            model::open as fn(&mut Search, &Opening) -> Report,
+            model::ask as fn(&Search) -> Report,
             model::enter as Enter,
         ),
-        (plain::open, plain::report, plain::enter),
-        (ffi::open, ffi::report, ffi::enter),
+        (plain::open, plain::ask, plain::enter),
+        (ffi::open, ffi::ask, ffi::enter),
     ];
-    for (open, report, enter) in all {
-        let mut search = Search::ZERO;
-        assert_eq!(open(&mut search, &M), Numbers::next(0, 0));
+    for (open, ask, enter) in all {
+        // What is there before does not matter.
+        let mut search = Search {
+            opening: R,
+            count: 73,
+            slots: [5; SLOTS],
+        };
+        assert_eq!(open(&mut search, &M), Report::next(0, 0));
         assert_eq!(search, Search::fresh(M));
-        assert_eq!(enter(&mut search, 0, -50), Numbers::next(100, 1));
-        assert_eq!(enter(&mut search, 99, 50), Numbers::refuse(6, 1));
-        assert_eq!(enter(&mut search, 100, -50), Numbers::refuse(8, 1));
-        assert_eq!(enter(&mut search, 100, 100), Numbers::next(33, 2));
+        assert_eq!(enter(&mut search, 0, -50), Report::next(100, 1));
+        assert_eq!(enter(&mut search, 99, 50), Report::refuse(6, 1));
+        assert_eq!(enter(&mut search, 100, -50), Report::refuse(8, 1));
+        assert_eq!(enter(&mut search, 100, 100), Report::next(33, 2));
         let mut slots = [0; SLOTS];
         slots[..2].copy_from_slice(&[-50, 100]);
         let held = Search {
@@ -194,16 +199,34 @@ fn held_searches() {
             slots,
         };
         assert_eq!(search, held);
-        assert_eq!(report(&search), Numbers::next(33, 2));
+        assert_eq!(ask(&search), Report::next(33, 2));
+        // A refused opening leaves the search as it was.
+        let refused = Opening::new(1, 5, 5, 1);
+        assert_eq!(open(&mut search, &refused), Report::refuse(3, 0));
+        assert_eq!(search, held);
         search.count = 73;
-        assert_eq!(report(&search), Numbers::refuse(9, 0));
-        assert_eq!(enter(&mut search, 33, 1), Numbers::refuse(9, 0));
-        assert_eq!(
-            open(&mut search, &Opening::new(1, 5, 5, 1)),
-            Numbers::refuse(3, 0)
-        );
-        assert_eq!(search, Search::ZERO);
+        assert_eq!(ask(&search), Report::refuse(9, 0));
+        assert_eq!(enter(&mut search, 33, 1), Report::refuse(9, 0));
     }
+}
+
+/// By value the search that was passed stays, and after a refusal the one returned is equal to it.
+#[test]
+fn held_searches_by_value() {
+    for entered in [plain::entered, ffi::entered] {
+        let fresh = Search::fresh(M);
+        let first = entered(fresh, 0, -50);
+        assert_eq!(first.report, Report::next(100, 1));
+        assert_eq!((first.search.count, first.search.slots[0]), (1, -50));
+        let refused = entered(first.search, 99, 50);
+        assert_eq!(refused.report, Report::refuse(6, 1));
+        assert_eq!(refused.search, first.search);
+    }
+}
+
+#[test]
+fn version_of_the_interface() {
+    assert_eq!(ffi::version(), ffi::VERSION);
 }
 
 /// Demand 3 on the model: brackets lie in one another, and their values are never on one side.
@@ -234,7 +257,7 @@ fn long_searches() {
         let orders = beam::longest(&opening, 30, &mut Rng::new(7));
         assert!((found..=bound).contains(&orders[0].len()));
         let report = model::values(&opening, &orders[0]);
-        assert_eq!(report.kind, Numbers::STOP);
+        assert_eq!(report.kind, Report::STOP);
         assert_eq!(report, plain::values(&opening, &orders[0]));
     }
 }
@@ -259,10 +282,10 @@ fn model_and_plain_on_searches() {
     for _ in 0..5_000 {
         let mut one = cases::any_search(&mut rng);
         let mut other = one;
-        let report = model::report(&one);
-        assert_eq!(report, plain::report(&other), "{one:?}");
-        let called = if report.kind == Numbers::NEXT {
-            report.a as i32
+        let report = model::ask(&one);
+        assert_eq!(report, plain::ask(&other), "{one:?}");
+        let called = if report.kind == Report::NEXT {
+            report.point as i32
         } else {
             0
         };

@@ -3,7 +3,7 @@
 #![forbid(unsafe_code)]
 
 use compare::rng::Rng;
-use compare::types::{Numbers, Opening, Search, Stepped};
+use compare::types::{Answered, Opening, Report, Search};
 use compare::{beam, cases, ffi, model, plain, sheets};
 use std::hint::black_box;
 use std::time::Instant;
@@ -31,15 +31,23 @@ impl Work {
             answers,
         }
     }
+
+    /// A search that holds so many of the answers.
+    fn holding(&self, count: usize) -> Search {
+        let mut search = Search::fresh(self.opening);
+        search.slots[..count].copy_from_slice(&self.values[..count]);
+        search.count = count as u32;
+        search
+    }
 }
 
 /// The calls that are timed: the library's or plain.rs's.
 #[derive(Clone, Copy)]
 struct Calls {
-    enter: fn(&mut Search, i32, i32) -> Numbers,
-    entered: fn(Search, i32, i32) -> Stepped,
-    values: fn(&Opening, &[i32]) -> Numbers,
-    sheet: fn(&[u8]) -> Numbers,
+    enter: fn(&mut Search, i32, i32) -> Report,
+    entered: fn(Search, i32, i32) -> Answered,
+    values: fn(&Opening, &[i32]) -> Report,
+    sheet: fn(&[u8]) -> Report,
 }
 
 const LIBRARY: Calls = Calls {
@@ -57,7 +65,10 @@ const PLAIN: Calls = Calls {
 };
 
 /// An operation over all works: it gives the nanoseconds that it took.
-type Timed = fn(Calls, &[Work]) -> f64;
+type Timed<'a> = &'a dyn Fn(Calls, &[Work]) -> f64;
+
+/// How many answers a search holds where the growth of an answer's cost is looked at.
+const BEFORE: [usize; 5] = [0, 10, 20, 30, 40];
 
 fn main() {
     println!("bench: seed {SEED}; what answers is {}", ffi::WHO);
@@ -69,7 +80,9 @@ fn main() {
     let mut rng = Rng::new(SEED);
     println!("\noperation                            library ns    plain ns  library/plain");
     table("usual", &usual(&mut rng));
-    table("long", &long(&mut rng));
+    let long = long(&mut rng);
+    table("long", &long);
+    growth(&long);
 }
 
 /// Searches as ovens of every kind answer them.
@@ -100,11 +113,23 @@ fn table(kind: &str, works: &[Work]) {
         "  an answer, into the host's search",
         works,
         answers,
-        entering,
+        &entering,
     );
-    line("  an answer, by value", works, answers, entering_by_value);
-    line("  a list of values", works, searches, listing);
-    line("  a sheet", works, searches, reading);
+    line("  an answer, by value", works, answers, &entering_by_value);
+    line("  a list of values", works, searches, &listing);
+    line("  a sheet", works, searches, &reading);
+}
+
+/// How the cost of an answer, entered into the host's search, grows with the answers before it.
+fn growth(works: &[Work]) {
+    println!("the long searches, by the answers that they hold already:");
+    for before in BEFORE {
+        let longer = works.iter().filter(|work| work.values.len() > before);
+        let name = format!("  an answer after {before} others");
+        line(&name, works, longer.count(), &|calls, works| {
+            entering_after(before, calls, works)
+        });
+    }
 }
 
 /// One line: the medians of both, by turns, for so many operations.
@@ -140,16 +165,31 @@ fn entering(calls: Calls, works: &[Work]) -> f64 {
     time.as_nanos() as f64
 }
 
-/// The same, each search passed and returned by value.
+/// The answer that follows so many others, entered into the host's own search.
+fn entering_after(before: usize, calls: Calls, works: &[Work]) -> f64 {
+    let longer = works.iter().filter(|work| work.values.len() > before);
+    let mut offers: Vec<(Search, (i32, i32))> = longer
+        .map(|work| (work.holding(before), work.answers[before]))
+        .collect();
+    let start = Instant::now();
+    for (search, (point, value)) in &mut offers {
+        black_box((calls.enter)(search, black_box(*point), black_box(*value)));
+    }
+    let time = start.elapsed();
+    black_box(&offers);
+    time.as_nanos() as f64
+}
+
+/// Every answer of every work, each search passed and returned by value.
 fn entering_by_value(calls: Calls, works: &[Work]) -> f64 {
     let fresh = |work: &Work| Search::fresh(work.opening);
     let mut searches: Vec<Search> = works.iter().map(fresh).collect();
     let start = Instant::now();
     for (search, work) in searches.iter_mut().zip(works) {
         for &(point, value) in &work.answers {
-            let stepped = (calls.entered)(*search, black_box(point), black_box(value));
-            *search = stepped.search;
-            black_box(stepped.numbers);
+            let answered = (calls.entered)(*search, black_box(point), black_box(value));
+            *search = answered.search;
+            black_box(answered.report);
         }
     }
     let time = start.elapsed();

@@ -16,7 +16,7 @@ pub fn call(kind: u8, search: Search, point: i32, value: i32) -> Entered
     if kind == 0 {
         search.enter(point, value)
     } else {
-        held::enter_through(search, point, value)
+        lent::enter_through(search, point, value)
     }
 }
 

@@ -26,16 +26,19 @@ countAbove = 9
 abbrev pub freshOf : Opening → Search
 freshOf o = record { opening = o; count = 0; slots = replicate slots (pos 0) }
 
--- what stands beside the refusal of an opening, which makes no fresh search: every number 0. Its ends are equal, so every call
--- refuses it
+-- an opening offered to a search. Accepted: the report and a fresh search. Refused: the refusal, and the search as it was
+unfoldable pub reopenOf : Search → Opening → Entered
+reopenOf s o =
+    cond (eqb (openingRefusal o) 0)
+    (record { report = reportOf o []; search = freshOf o })
+    (record { report = Report.Refused (openingRefusal o) 0; search = s })
+
+-- what stands beside the refusal of an opening where there was no search: every number 0. Its ends are equal, so every call refuses it
 abbrev pub blank : Search
 blank = freshOf (record { method = pos 0; first = pos 0; second = pos 0; tolerance = pos 0 })
 
-unfoldable pub openOf : Opening → Entered
-openOf o =
-    cond (eqb (openingRefusal o) 0)
-    (record { report = reportOf o []; search = freshOf o })
-    (record { report = Report.Refused (openingRefusal o) 0; search = blank })
+abbrev pub openOf : Opening → Entered
+openOf = reopenOf blank
 
 -- ---- the report
 

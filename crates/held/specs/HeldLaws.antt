@@ -12,7 +12,7 @@ use lib.Dec.{ltb}
 use lib.IntN.{ℤ, pos}
 use lib.ListN.{length, getD, set}
 use lib.Seq.{take-suc-set, length-take-le, set-getD}
-use Rattle.integers.specs.Signs.{never}
+use Rattle.integers.specs.SignsLaws.{never}
 use Rattle.rules.specs.declared.Opening.{Opening}
 use Rattle.rules.specs.declared.Progress.{Progress}
 use Rattle.rules.specs.declared.Report.{Report}
@@ -23,15 +23,12 @@ use Rattle.rules.specs.SearchLaws.{accepted-more, accepted-room, taken-is}
 use Rattle.held.specs.declared.Search.{Search}
 use Rattle.held.specs.declared.Entered.{Entered}
 use Rattle.held.specs.declared.Verdict.{Verdict}
-use Rattle.held.specs.Held.{countAbove, freshOf, blank, openOf, valuesOf, standingOf, heldReport, withValue, triedOf, enterOf}
+use Rattle.held.specs.Held.{countAbove, freshOf, blank, reopenOf, valuesOf, standingOf, heldReport, withValue, triedOf, enterOf}
+use Rattle.held.specs.Judged.{verdictOf}
 
 -- a slot is free
 pub record Free (s : Search) : Type 0 where
   pub free : s .count < slots
-
--- where a search with a count, an opening and the values up to the count stands
-abbrev pub standingBy : ℕ → Opening → List ℤ → Progress
-standingBy n o vs = cond (ltb slots n) (Progress.Refused countAbove 0) (progressOf o vs)
 
 -- ---- an accepted answer
 
@@ -85,7 +82,8 @@ unfolding enterOf
 enter-report s x v long = go (isRefused (triedOf s x v)) refl
   where
     go : (b : Bool) → isRefused (triedOf s x v) ≡ b
-        → cond {A = Entered} b (record { report = reportAt (s .opening) (triedOf s x v); search = s }) (record { report = heldReport (withValue s v); search = withValue s v }) .report
+        → cond {A = Entered} b (record { report = reportAt (s .opening) (triedOf s x v); search = s })
+        (record { report = heldReport (withValue s v); search = withValue s v }) .report
         ≡ reportAt (s .opening) (triedOf s x v)
     go true e = refl
     go false e = sym (report-more s x v long e)
@@ -97,6 +95,10 @@ pub record Agree (s s' : Search) : Type 0 where
   pub opening : s .opening ≡ s' .opening
   pub count : s .count ≡ s' .count
   pub values : valuesOf s ≡ valuesOf s'
+
+-- where a search with a count, an opening and the values up to the count stands
+abbrev standingBy : ℕ → Opening → List ℤ → Progress
+standingBy n o vs = cond (ltb slots n) (Progress.Refused countAbove 0) (progressOf o vs)
 
 module _ (s s' : Search) (a : Agree s s') where
   same-standing : standingOf s ≡ standingOf s'
@@ -127,15 +129,15 @@ blank-entry x v = refl
 
 -- ---- the calls, from what their parts answer
 
--- a fresh search: n is the opening's refusal, and h the search beside the report
-module _ (o : Opening) (n : ℕ) (h : Search) (e : n ≡ openingRefusal o) where
-  pub open-refused : (n ≡ 0 → ⊥) → h ≡ blank → record { report = Report.Refused n 0; search = h } ≡ openOf o
-  unfolding openOf
-  open-refused t g = rw g (rw (← e) (simp (ne-eqb n 0 t)))
+-- an opening: n is its refusal, and h the search beside the report
+module _ (s : Search) (o : Opening) (n : ℕ) (e : n ≡ openingRefusal o) where
+  pub open-refused : (n ≡ 0 → ⊥) → record { report = Report.Refused n 0; search = s } ≡ reopenOf s o
+  unfolding reopenOf
+  open-refused t = rw (← e) (simp (ne-eqb n 0 t))
 
-  pub open-accepted : n ≡ 0 → (x : ℕ) → x ≡ firstOf o → h ≡ freshOf o → record { report = Report.Next x 0; search = h } ≡ openOf o
-  unfolding openOf reportOf progressOf beginOf reportAt
-  open-accepted t x f g = rw (f, g) (simp (eq-eqb _ 0 (sym e ∙ t)))
+  pub open-accepted : n ≡ 0 → (x : ℕ) → x ≡ firstOf o → (h : Search) → h ≡ freshOf o → record { report = Report.Next x 0; search = h } ≡ reopenOf s o
+  unfolding reopenOf reportOf progressOf beginOf reportAt
+  open-accepted t x f h g = rw (f, g) (simp (eq-eqb _ 0 (sym e ∙ t)))
 
 -- an answer: q is where the search stands then
 module _ (s : Search) (x v : ℤ) (q : Progress) (r : Report) (e : q ≡ triedOf s x v) (f : r ≡ reportAt (s .opening) q) where
@@ -150,16 +152,6 @@ module _ (s : Search) (x v : ℤ) (q : Progress) (r : Report) (e : q ≡ triedOf
       rw (f, e, g) (simp u (ap (λ (r : Report). record { report = r; search = withValue s v }) (report-more s x v l u)))
 
 -- ---- what an answer does to a search, without the search
-
--- a search of its parts
-abbrev pub searchOf : Opening → ℕ → List ℤ → Search
-searchOf o n vs = record { opening = o; count = n; slots = vs }
-
-unfoldable pub verdictOf : Search → ℤ → ℤ → Verdict
-verdictOf s x v =
-    cond (isRefused (triedOf s x v))
-    (record { report = reportAt (s .opening) (triedOf s x v); count = s .count; at = 0; value = getD (s .slots) 0 (pos 0) })
-    (record { report = reportAt (s .opening) (triedOf s x v); count = s .count + 1; at = s .count; value = v })
 
 module _ (s : Search) (x v : ℤ) (r : Report) (e : r ≡ reportAt (s .opening) (triedOf s x v)) where
   pub verdict-refused : isRefused (triedOf s x v) ≡ true → record { report = r; count = s .count; at = 0; value = getD (s .slots) 0 (pos 0) } ≡ verdictOf s x v
@@ -184,5 +176,10 @@ unfolding verdictOf enterOf
 stores s x v r l e = subst (Stores s x v) (sym e) (go (isRefused (triedOf s x v)) refl)
   where
     go : (b : Bool) → isRefused (triedOf s x v) ≡ b → Stores s x v (verdictOf s x v)
-    go true f = record { room = simp f (omega arith); told = simp f; left = simp f (ap (λ (vs : List ℤ). record { opening = s .opening; count = s .count; slots = vs }) (set-getD (s .slots) 0 (pos 0))) }
+    go true f = record {
+      room = simp f (omega arith);
+      told = simp f;
+      left = simp f (ap (λ
+          (vs : List ℤ). record { opening = s .opening; count = s .count; slots = vs }) (set-getD (s .slots) 0 (pos 0)));
+    }
     go false f = record { room = simp f (free-slot s x v l f .free); told = simp f (report-more s x v l f); left = simp f }

@@ -1,10 +1,10 @@
 // Held searches: a search that keeps its own list of values.
 ghost use mathlib.Core.Path.{_≡_};
-ghost use lib.ListN.{length, take};
+ghost use lib.ListN.{length};
 ghost use Rattle.rules.specs.Rules.{slots};
 ghost use Rattle.rules.specs.Search.{answersOf, reportAt, isRefusal};
-ghost use Rattle.held.specs.Held.{freshOf, openOf, heldReport, enterOf};
-ghost use Rattle.held.specs.HeldLaws.{standingBy, searchOf, verdictOf};
+ghost use Rattle.held.specs.Held.{freshOf, blank, reopenOf, openOf, standingOf, heldReport, enterOf};
+ghost use Rattle.held.specs.Judged.{searchOf, verdictOf};
 use rules::Opening;
 use rules::Report;
 
@@ -45,7 +45,8 @@ fn unanswered(opening: Opening) -> Search
 // values and the answers.
 fn told(opening: Opening, count: u32, held: &[i32], points: &[i32], values: &[i32]) -> Report
     requires { ⌜ (length (now held) ≡ slots) × (length (now points) ≡ length (now values)) ⌝ }
-    ensures { λ r. ⌜ r ≡ reportAt opening (answersOf opening (standingBy count opening (take count (now (held .entry)))) (now (points .entry)) (now (values .entry))) ⌝ }
+    ensures { λ r. ⌜ r ≡ reportAt opening
+        (answersOf opening (standingOf (searchOf opening count (now (held .entry)))) (now (points .entry)) (now (values .entry))) ⌝ }
 {
     if rules::SLOTS < count as usize {
         return Report::Refused {
@@ -122,31 +123,47 @@ impl Search {
 
     pub const SLOTS: usize = rules::SLOTS;
 
-    // A fresh search and its report. A refused opening makes none: beside the refusal stands a blank, which every call refuses.
-    pub fn fresh(opening: Opening) -> Entered
-        ensures { λ r. ⌜ r ≡ openOf opening ⌝ }
+    // A fresh search of an opening in this one's place, and its report. A refused opening makes none: this search stays as it is.
+    pub fn reopen(self, opening: Opening) -> Entered
+        ensures { λ r. ⌜ r ≡ reopenOf self opening ⌝ }
     {
-        let n = walk::opening_refusal(opening);
+        let fresh = unanswered(opening);
+        let n = refusals::opening_refusal(opening);
         if n != 0 {
-            let nothing = Opening {
-                method: 0,
-                first: 0,
-                second: 0,
-                tolerance: 0,
-            };
             return Entered {
                 report: Report::Refused {
                     number: n,
                     place: 0,
                 },
-                search: unanswered(nothing),
+                search: self,
             };
         }
-        let point = interpolation::magnitude(opening.first);
+        let point = comparisons::magnitude(opening.first);
         Entered {
             report: Report::Next { point, taken: 0 },
-            search: unanswered(opening),
+            search: fresh,
         }
+    }
+
+    // What stands beside a refusal where there was no search: every number is 0, and every call refuses it.
+    pub fn blank() -> Search
+        ensures { λ r. ⌜ r ≡ blank ⌝ }
+    {
+        let nothing = Opening {
+            method: 0,
+            first: 0,
+            second: 0,
+            tolerance: 0,
+        };
+        unanswered(nothing)
+    }
+
+    // A fresh search and its report. A refused opening makes none: beside its refusal stands a blank.
+    pub fn fresh(opening: Opening) -> Entered
+        ensures { λ r. ⌜ r ≡ openOf opening ⌝ }
+    {
+        let none = Search::blank();
+        none.reopen(opening)
     }
 
     // The report of the search as it stands.
@@ -172,28 +189,5 @@ impl Search {
             report,
             search: next,
         }
-    }
-}
-
-// The same for the host's own search: one slot and the count are stored.
-pub fn enter_into(search: &mut Search, point: i32, value: i32) -> Report
-    ensures { λ r. ⌜ (r ≡ (enterOf (now (search .entry)) point value) .report) × (now (search .exit) ≡ (enterOf (now (search .entry)) point value) .search) ⌝ }
-{
-    let v = judge(*search, point, value);
-    let at = v.at;
-    (*search).slots[at] = v.value;
-    (*search).count = v.count;
-    v.report
-}
-
-// The same with plain parameters: a search of one's own is lent, and comes back beside the report.
-pub fn enter_through(search: Search, point: i32, value: i32) -> Entered
-    ensures { λ r. ⌜ r ≡ enterOf search point value ⌝ }
-{
-    let mut held = search;
-    let report = enter_into(&mut held, point, value);
-    Entered {
-        report,
-        search: held,
     }
 }

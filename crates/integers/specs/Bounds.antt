@@ -13,7 +13,8 @@ use mir.Syntax.{Width, w64}
 use mir.Val.{SFits, hbits, toZ, ofZ}
 use mir.Facts.{toZ-ofZ}
 use borrow.Author.Tests.{ltb-true, eqb-true, eqb-false}
-use Rattle.integers.specs.Signs.{eqZ, never, eq-eqZ, ne-eqZ}
+use Rattle.integers.specs.Signs.{eqZ}
+use Rattle.integers.specs.SignsLaws.{never, eq-eqZ, ne-eqZ}
 
 -- ---- the absolute value through the operations
 

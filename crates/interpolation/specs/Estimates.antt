@@ -5,7 +5,8 @@ use Prim.Native.Nat.{ℕ}
 use mathlib.Core.Path.{_≡_, refl}
 use mathlib.Core.Bool.{Bool, cond}
 use lib.IntN.{ℤ, pos, negℤ, _-ℤ_, _*ℤ_}
-use Rattle.integers.specs.Signs.{eqZ, eqZ-difference}
+use Rattle.integers.specs.Signs.{eqZ}
+use Rattle.integers.specs.SignsLaws.{eqZ-difference}
 use Rattle.rules.specs.Rules.{atBetter, noEstimate, toward, linearOf, crossOf, rationalOf}
 use Rattle.rules.specs.declared.Sample.{Sample}
 use Rattle.rules.specs.declared.Fraction.{Fraction}

@@ -1,45 +1,15 @@
 // Rules 3 to 5 of document 01 in exact 64-bit arithmetic: the linear and the rational estimate, and the displacement that a fraction
-// gives; with the magnitude and the sign tests of rules 1 and 6.
+// gives.
 ghost use mathlib.Core.Path.{_≡_};
 ghost use Prim.Native.Nat.{_≤_, _*_};
-ghost use lib.IntN.{pos, natAbs};
+ghost use lib.IntN.{pos};
 ghost use lib.Signed.{_<ℤ_};
 ghost use Rattle.integers.specs.Bounds.{Within};
-ghost use Rattle.integers.specs.Signs.{eqZ};
-ghost use Rattle.rules.specs.Rules.{closer, opposed, linearOf, crossOf, rationalOf, doubledOf, forwardOf, displacementOf};
+ghost use Rattle.rules.specs.Rules.{linearOf, crossOf, rationalOf, doubledOf, forwardOf, displacementOf};
 ghost use Rattle.interpolation.specs.Ranges.{widest, Measured, mostCross, mostNum, mostDen, Small};
 ghost use Rattle.interpolation.specs.Estimates.{estimateOf};
 use rules::Fraction;
 use rules::Sample;
-
-// The absolute value. The lowest i32 has one too, so it is taken in i64.
-pub fn magnitude(v: i32) -> u32
-    ensures { λ r. ⌜ r ≡ natAbs v ⌝ }
-{
-    let n = v as i64;
-    if n < 0 { (-n) as u32 } else { n as u32 }
-}
-
-// Whether two numbers are equal.
-pub fn equal(a: i32, b: i32) -> bool
-    ensures { λ r. ⌜ r ≡ eqZ a b ⌝ }
-{
-    a == b
-}
-
-// Whether the value of p is at least as close to zero as that of q.
-pub fn closer(p: Sample, q: Sample) -> bool
-    ensures { λ r. ⌜ r ≡ closer p q ⌝ }
-{
-    magnitude(p.value) <= magnitude(q.value)
-}
-
-// Whether the product of two values is zero or negative.
-pub fn opposed(v: i32, w: i32) -> bool
-    ensures { λ r. ⌜ r ≡ opposed v w ⌝ }
-{
-    (v as i64) * (w as i64) <= 0
-}
 
 // The estimate b − s(b − a)/q, as a fraction from b in the direction of the other end, which is upwards or not.
 fn estimate(s: i64, q: i64, b: u32, a: u32, up: bool) -> Fraction

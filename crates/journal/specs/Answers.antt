@@ -1,4 +1,4 @@
--- An answer as it is offered: a point and its value, in or out of range.
+-- Answers as they are offered: document 01's answer, a point and its value, each in or out of range.
 -- Assumes nothing.
 use mathlib.Core.List.{List, map}
 use lib.IntN.{ℤ}

@@ -1,22 +1,24 @@
--- The trial book of document 01, under its own heading: a list of answers, empty at first, whose reports are computed from it from
--- scratch. It shares rules 1 to 8 with the search, and nothing else.
+-- The journal, which is document 01's trial book, in the order of its section: a list of answers, empty at first; accepted means
+-- entered in it, and n is their number. Its reports are computed from the list from scratch. It shares rules 1 to 8 with the search, and
+-- the numbers of the refusals; which of them applies it decides by itself.
 -- Assumes nothing.
 use Prim.Native.Nat.{ℕ}
-use mathlib.Core.Bool.{Bool, false, cond, not, _&&_, _||_}
+use mathlib.Core.Path.{_≡_}
+use mathlib.Core.Bool.{Bool, false, cond, not}
 use mathlib.Core.List.{List, [], _∷_, _++_}
 use lib.Dec.{eqb, ltb}
 use lib.IntN.{ℤ, pos, natAbs}
 use lib.ListN.{length}
-use lib.Signed.{ltZ}
 use Rattle.integers.specs.Signs.{eqZ}
 use Rattle.rules.specs.declared.Opening.{Opening}
 use Rattle.rules.specs.declared.Sample.{Sample}
 use Rattle.rules.specs.declared.Bracket.{Bracket}
 use Rattle.rules.specs.declared.Report.{Report}
-use Rattle.rules.specs.Rules.{largestValue, firstOf, secondOf, startOf, stoppedOf, nextOf, advanceOf, lowerOf, upperOf}
+use Rattle.rules.specs.Rules.{largestValue, firstOf, secondOf, startOf, lowerOf, upperOf, Inside, stoppedOf, nextOf, advanceOf}
+use Rattle.rules.specs.Refusals.{hadStopped, notCalledFor, valueOutOfRange, sameSign, sameSide}
 use Rattle.journal.specs.Answers.{Answer}
 
--- ---- the bracket: from n = 2 on, rules 1 to 8 applied to the answers in order
+-- ---- the bracket: from n = 2 on, rules 1 to 8, applied to the answers in order
 
 -- a point that was called for, with its value
 abbrev pub sampleOf : Answer → Sample
@@ -60,16 +62,16 @@ journalReport o (a ∷ b ∷ rest) = reportWith o (bracketOf a b rest) (length (
 -- it is the second, and the first two values are both positive or both negative
 abbrev pub oneSide : List Answer → ℤ → Bool
 oneSide [] v = false
-oneSide (a ∷ []) v = (ltZ (pos 0) (a .value) && ltZ (pos 0) v) || (ltZ (a .value) (pos 0) && ltZ v (pos 0))
+oneSide (a ∷ []) v = sameSide (a .value) v
 oneSide (a ∷ b ∷ rest) v = false
 
 -- the first refusal that applies, 0 where none does
 unfoldable pub refusalOf : Opening → List Answer → Answer → ℕ
 refusalOf o journal a =
-    cond (stopOf o journal) 5
-    (cond (not (eqZ (a .point) (pos (pointCalled o journal)))) 6
-    (cond (ltb largestValue (natAbs (a .value))) 7
-    (cond (oneSide journal (a .value)) 8 0)))
+    cond (stopOf o journal) hadStopped
+    (cond (not (eqZ (a .point) (pos (pointCalled o journal)))) notCalledFor
+    (cond (ltb largestValue (natAbs (a .value))) valueOutOfRange
+    (cond (oneSide journal (a .value)) sameSign 0)))
 
 abbrev pub takes : Opening → List Answer → Answer → Bool
 takes o journal a = eqb (refusalOf o journal a) 0
@@ -80,7 +82,8 @@ journalWith o journal a = cond (takes o journal a) (journal ++ (a ∷ [])) journ
 
 -- what the call answers: the journal's new report, or the refusal with index n
 unfoldable pub toldOf : Opening → List Answer → Answer → Report
-toldOf o journal a = cond (takes o journal a) (journalReport o (journal ++ (a ∷ []))) (Report.Refused (refusalOf o journal a) (length journal))
+toldOf o journal a =
+    cond (takes o journal a) (journalReport o (journal ++ (a ∷ []))) (Report.Refused (refusalOf o journal a) (length journal))
 
 -- ---- a run
 
@@ -94,7 +97,8 @@ unfoldable pub toldAll : Opening → List Answer → List Answer → List Report
 toldAll o journal [] = []
 toldAll o journal (a ∷ offers) = toldOf o journal a ∷ toldAll o (journalWith o journal a) offers
 
--- the journal's brackets after each entry, from the second on
+-- ---- the brackets after each entry, from the second on
+
 abbrev pub bracketsFrom : Bracket → List Answer → List Bracket
 bracketsFrom k [] = k ∷ []
 bracketsFrom k (a ∷ rest) = k ∷ bracketsFrom (advanceOf k (sampleOf a)) rest
@@ -103,3 +107,14 @@ unfoldable pub bracketsOf : List Answer → List Bracket
 bracketsOf [] = []
 bracketsOf (a ∷ []) = []
 bracketsOf (a ∷ b ∷ rest) = bracketsFrom (startOf (sampleOf a) (sampleOf b)) rest
+
+-- each lies within the one before
+abbrev pub Nested : List Bracket → Type 0
+Nested [] = Unit {0}
+Nested (k ∷ []) = Unit {0}
+Nested (k ∷ k' ∷ ks) = Inside k k' × Nested (k' ∷ ks)
+
+-- and its two values are never both above or both below target
+abbrev pub Opposed : List Bracket → Type 0
+Opposed [] = Unit {0}
+Opposed (k ∷ ks) = (sameSide (k .better .value) (k .other .value) ≡ false) × Opposed ks

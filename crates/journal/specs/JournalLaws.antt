@@ -1,5 +1,5 @@
--- The journal and the search over a list come to the same: what is known of a journal that answers have made, where the list of its values
--- leads, and what its brackets are.
+-- The journal and the search over a list come to the same: what is known of a journal that answers have made, where the list of its
+-- values leads, and what its brackets are.
 -- Assumes nothing.
 use Prim.Native.Nat.{ℕ, _≤_, _<_}
 use mathlib.Core.Path.{_≡_, refl, sym, ap, ap₂, subst, subst₂, _∙_}
@@ -10,19 +10,21 @@ use borrow.Author.Tests.{eqb-true, eq-eqb, ltb-false, le-ltb}
 use lib.Dec.{ltb}
 use lib.IntN.{ℤ, pos, natAbs}
 use lib.ListN.{length, length-map}
-use Rattle.integers.specs.Signs.{eqZ, eqZ-true, never}
+use Rattle.integers.specs.Signs.{eqZ}
+use Rattle.integers.specs.SignsLaws.{eqZ-true, never}
 use Rattle.rules.specs.declared.Opening.{Opening}
 use Rattle.rules.specs.declared.Sample.{Sample}
 use Rattle.rules.specs.declared.Bracket.{Bracket}
 use Rattle.rules.specs.declared.Progress.{Progress}
-use Rattle.rules.specs.Rules.{largestValue, firstOf, secondOf, startOf, stoppedOf, nextOf, advanceOf}
-use Rattle.rules.specs.Refusals.{openingRefusal, answerRefusal, tooLarge, sameSide, Accepted}
+use Rattle.rules.specs.Rules.{largestValue, firstOf, secondOf, startOf, Inside, stoppedOf, nextOf, advanceOf}
+use Rattle.rules.specs.Refusals.{hadStopped, notCalledFor, valueOutOfRange, sameSign, openingRefusal, answerRefusal, tooLarge, sameSide, Accepted}
 use Rattle.rules.specs.RefusalsLaws.{Opened, opposed-crossing}
-use Rattle.rules.specs.RulesLaws.{Inside}
-use Rattle.rules.specs.Search.{isRefused, beginOf, stoppedAt, sameSideAt, otherAt, enteredAt, offerOf, takeOf, progressOf, bracketReport, reportAt, reportOf, mostOf}
+use Rattle.rules.specs.Search.{isRefused, beginOf, stoppedAt, sameSideAt, otherAt, enteredAt, offerOf, takeOf, progressOf, bracketReport}
+use Rattle.rules.specs.Search.{reportAt, reportOf, mostOf}
 use Rattle.rules.specs.SearchLaws.{Sound, sound-start, sound-advance, advanced, counts, at-most, before-stop}
 use Rattle.journal.specs.Answers.{Answer, answerValue, values}
-use Rattle.journal.specs.Journal.{sampleOf, advancedBy, bracketOf, stopOf, pointCalled, reportWith, journalReport, oneSide, refusalOf, takes, bracketsFrom, bracketsOf}
+use Rattle.journal.specs.Journal.{sampleOf, advancedBy, bracketOf, stopOf, pointCalled, reportWith, journalReport, oneSide, refusalOf}
+use Rattle.journal.specs.Journal.{takes, bracketsFrom, bracketsOf, Nested, Opposed}
 
 -- ---- where a search of the journal's values stands
 
@@ -39,40 +41,46 @@ stop-stage o (a ∷ []) = refl
 stop-stage o (a ∷ b ∷ rest) = refl
 
 side-stage : (journal : List Answer) (v : ℤ) → oneSide journal v ≡ sameSideAt (stageOf journal) v
-unfolding sameSide
 side-stage [] v = refl
 side-stage (a ∷ []) v = refl
 side-stage (a ∷ b ∷ rest) v = refl
 
-other-stage : (o : Opening) (journal : List Answer) (x : ℤ) → stopOf o journal ≡ false → not (eqZ x (pos (pointCalled o journal))) ≡ otherAt o (stageOf journal) x
+other-stage : (o : Opening) (journal : List Answer) (x : ℤ) → stopOf o journal ≡ false
+    → not (eqZ x (pos (pointCalled o journal))) ≡ otherAt o (stageOf journal) x
 unfolding stopOf pointCalled
 other-stage o [] x e = refl
 other-stage o (a ∷ []) x e = refl
 other-stage o (a ∷ b ∷ rest) x e = simp e
 
+-- the row's refusals, in its order
+abbrev inOrder : (stopped other large same : Bool) → ℕ
+inOrder stopped other large same =
+    cond stopped hadStopped (cond other notCalledFor (cond large valueOutOfRange (cond same sameSign 0)))
+
 -- so they refuse alike
 pub refusal-stage : (o : Opening) (journal : List Answer) (a : Answer)
-    → refusalOf o journal a ≡ answerRefusal (stoppedAt o (stageOf journal)) (otherAt o (stageOf journal) (a .point)) (tooLarge (a .value)) (sameSideAt (stageOf journal) (a .value))
+    → refusalOf o journal a
+    ≡ answerRefusal (stoppedAt o (stageOf journal)) (otherAt o (stageOf journal) (a .point)) (tooLarge (a .value)) (sameSideAt (stageOf journal) (a .value))
 unfolding refusalOf answerRefusal
 refusal-stage o journal a = go (stopOf o journal) refl
   where
     go : (b : Bool) → stopOf o journal ≡ b
-        → _≡_ {A = ℕ} (cond b 5 (cond (not (eqZ (a .point) (pos (pointCalled o journal)))) 6 (cond (tooLarge (a .value)) 7 (cond (oneSide journal (a .value)) 8 0))))
-        (cond (stoppedAt o (stageOf journal)) 5 (cond (otherAt o (stageOf journal) (a .point)) 6 (cond (tooLarge (a .value)) 7 (cond (sameSideAt (stageOf journal) (a .value)) 8 0))))
+        → inOrder b (not (eqZ (a .point) (pos (pointCalled o journal)))) (tooLarge (a .value)) (oneSide journal (a .value))
+        ≡ inOrder (stoppedAt o (stageOf journal)) (otherAt o (stageOf journal) (a .point)) (tooLarge (a .value)) (sameSideAt (stageOf journal) (a .value))
     go true e = rw (sym (stop-stage o journal) ∙ e)
     go false e = rw (sym (stop-stage o journal) ∙ e, other-stage o journal (a .point) e, side-stage journal (a .value))
 
 -- ---- what is known of a journal that answers have made
 
 -- each answer after the second came while the search went on, with the next point and a value in range
-pub record Next (o : Opening) (k : Bracket) (a : Answer) : Type 0 where
+pub record Following (o : Opening) (k : Bracket) (a : Answer) : Type 0 where
   pub going : stoppedOf o k ≡ false
   pub called : a .point ≡ pos (nextOf o k)
   pub ranged : natAbs (a .value) ≤ largestValue
 
 abbrev pub Onward : Opening → Bracket → List Answer → Type 0
 Onward o k [] = Unit {0}
-Onward o k (a ∷ rest) = Next o k a × Onward o (advanceOf k (sampleOf a)) rest
+Onward o k (a ∷ rest) = Following o k a × Onward o (advanceOf k (sampleOf a)) rest
 
 -- the first two: at x0 and x1, with values in range
 pub record At (x : ℕ) (a : Answer) : Type 0 where
@@ -95,10 +103,12 @@ pub record Fine (o : Opening) (journal : List Answer) (a : Answer) : Type 0 wher
 pub fine : (o : Opening) (journal : List Answer) (a : Answer) → takes o journal a ≡ true → Fine o journal a
 unfolding refusalOf
 fine o journal a t =
-    go (stopOf o journal) refl (eqZ (a .point) (pos (pointCalled o journal))) refl (ltb largestValue (natAbs (a .value))) refl (oneSide journal (a .value)) refl (eqb-true (refusalOf o journal a) 0 t)
+    go (stopOf o journal) refl (eqZ (a .point) (pos (pointCalled o journal))) refl (ltb largestValue (natAbs (a .value))) refl
+    (oneSide journal (a .value)) refl (eqb-true (refusalOf o journal a) 0 t)
   where
-    go : (s : Bool) → stopOf o journal ≡ s → (p : Bool) → eqZ (a .point) (pos (pointCalled o journal)) ≡ p → (l : Bool) → ltb largestValue (natAbs (a .value)) ≡ l
-        → (d : Bool) → oneSide journal (a .value) ≡ d → _≡_ {A = ℕ} (cond s 5 (cond (not p) 6 (cond l 7 (cond d 8 0)))) 0 → Fine o journal a
+    go : (s : Bool) → stopOf o journal ≡ s → (p : Bool) → eqZ (a .point) (pos (pointCalled o journal)) ≡ p
+        → (l : Bool) → ltb largestValue (natAbs (a .value)) ≡ l → (d : Bool) → oneSide journal (a .value) ≡ d
+        → inOrder s (not p) l d ≡ 0 → Fine o journal a
     go true e p f l g d h i = absurd (omega arith)
     go false e false f l g d h i = absurd (omega arith)
     go false e true f true g d h i = absurd (omega arith)
@@ -106,12 +116,13 @@ fine o journal a t =
     go false e true f false g false h i =
         record { going = e; called = eqZ-true _ _ f; ranged = ltb-false largestValue (natAbs (a .value)) g; crossing = h }
 
-onward-more : (o : Opening) (k : Bracket) (rest : List Answer) (a : Answer) → Onward o k rest → Next o (advancedBy k rest) a → Onward o k (rest ++ (a ∷ []))
+onward-more : (o : Opening) (k : Bracket) (rest : List Answer) (a : Answer) → Onward o k rest → Following o (advancedBy k rest) a
+    → Onward o k (rest ++ (a ∷ []))
 onward-more o k [] a w n = (n, tt)
 onward-more o k (x ∷ rest) a w n = (w .0, onward-more o (advanceOf k (sampleOf x)) rest a (w .1) n)
 
 pub kept-more : (o : Opening) (journal : List Answer) (a : Answer) → Kept o journal → Fine o journal a → Kept o (journal ++ (a ∷ []))
-unfolding stopOf pointCalled sameSide
+unfolding stopOf pointCalled
 kept-more o [] a k f = record { called = f .called; ranged = f .ranged }
 kept-more o (x ∷ []) a k f = (k, record { called = f .called; ranged = f .ranged }, f .crossing, tt)
 kept-more o (x ∷ y ∷ rest) a k f =
@@ -124,7 +135,8 @@ pub sample-is : (a : Answer) (x : ℕ) → a .point ≡ pos x → sampleOf a ≡
 sample-is a x e = ap (λ (z : ℤ). record { point = natAbs z; value = a .value }) e
 
 -- a value in range is taken while no refusal applies
-take-passes : (o : Opening) (p : Progress) (v : ℤ) → isRefused p ≡ false → stoppedAt o p ≡ false → natAbs v ≤ largestValue → sameSideAt p v ≡ false → takeOf o p v ≡ enteredAt o p v
+take-passes : (o : Opening) (p : Progress) (v : ℤ) → isRefused p ≡ false → stoppedAt o p ≡ false → natAbs v ≤ largestValue
+    → sameSideAt p v ≡ false → takeOf o p v ≡ enteredAt o p v
 unfolding takeOf offerOf answerRefusal
 take-passes o Progress.Begun v r s h d = simp (le-ltb largestValue (natAbs v) h)
 take-passes o (Progress.First u) v r s h d = simp (le-ltb largestValue (natAbs v) h, d)
@@ -141,7 +153,7 @@ second-taken o a b p q d =
     take-passes o (Progress.First (a .value)) (b .value) refl refl (q .ranged) d
     ∙ ap₂ (λ (s t : Sample). Progress.Bracketed (startOf s t)) (sym (sample-is a (firstOf o) (p .called))) (sym (sample-is b (secondOf o) (q .called)))
 
-pub next-taken : (o : Opening) (k : Bracket) (a : Answer) → Next o k a
+pub next-taken : (o : Opening) (k : Bracket) (a : Answer) → Following o k a
     → takeOf o (Progress.Bracketed k) (a .value) ≡ Progress.Bracketed (advanceOf k (sampleOf a))
 next-taken o k a n =
     take-passes o (Progress.Bracketed k) (a .value) refl (n .going) (n .ranged) refl
@@ -215,22 +227,13 @@ module _ (o : Opening) (accepted : Accepted o) (journal : List Answer) (kept : K
 
 -- ---- the brackets: each lies within the one before, and its values are never both above or both below target
 
-abbrev pub Nested : List Bracket → Type 0
-Nested [] = Unit {0}
-Nested (k ∷ []) = Unit {0}
-Nested (k ∷ k' ∷ ks) = Inside k k' × Nested (k' ∷ ks)
-
-abbrev pub Opposed : List Bracket → Type 0
-Opposed [] = Unit {0}
-Opposed (k ∷ ks) = (sameSide (k .better .value) (k .other .value) ≡ false) × Opposed ks
-
 module _ (o : Opening) (op : Opened o) where
   -- the bracket after an answer
-  pub step-sound : (k : Bracket) (a : Answer) → Sound o k → Next o k a → Sound o (advanceOf k (sampleOf a))
+  pub step-sound : (k : Bracket) (a : Answer) → Sound o k → Following o k a → Sound o (advanceOf k (sampleOf a))
   step-sound k a s n =
       subst (λ (x : Sample). Sound o (advanceOf k x)) (sym (sample-is a (nextOf o k) (n .called))) (sound-advance o k (a .value) op s (n .going) (n .ranged))
 
-  step-inside : (k : Bracket) (a : Answer) → Sound o k → Next o k a → Inside k (advanceOf k (sampleOf a))
+  step-inside : (k : Bracket) (a : Answer) → Sound o k → Following o k a → Inside k (advanceOf k (sampleOf a))
   step-inside k a s n =
       subst (λ (x : Sample). Inside k (advanceOf k x)) (sym (sample-is a (nextOf o k) (n .called))) (advanced o k (a .value) op s (n .going) .inside)
 

@@ -1,49 +1,43 @@
--- One call of a search that holds a journal's values answers as the journal does, and leaves the search of the journal's next state; and the
--- reader gives the journal's report on a sheet of it.
+-- One call of a search that holds a journal answers as the journal does, and leaves the search that holds the journal's next state. The
+-- reader gives the journal's report on a sheet of it, and its numbers can be spelled.
 -- Assumes nothing.
-use Prim.Native.Nat.{ℕ, suc, _+_, _-_, _≤_, _<_}
+use Prim.Native.Nat.{ℕ, _+_, _≤_, _<_}
 use mathlib.Core.Path.{_≡_, refl, sym, ap, ap₂, _∙_}
 use mathlib.Core.Bool.{Bool, true, false, cond, not}
-use mathlib.Core.List.{List, [], _∷_, _++_, append-assoc}
+use mathlib.Core.List.{List, [], _∷_, _++_}
 use native.Mathlib.Omega.{arith}
 use borrow.Author.Tests.{le-ltb}
 use lib.Dec.{eqb}
 use lib.IntN.{ℤ, pos}
-use lib.ListN.{length, set, replicate, length-append, length-replicate, length-map}
-use lib.Seq.{take-at, set-at}
-use Rattle.integers.specs.Signs.{eqZ, eq-eqZ}
+use lib.ListN.{length, set, length-append, length-replicate, length-map}
+use lib.Seq.{take-at}
+use Rattle.integers.specs.Signs.{eqZ}
+use Rattle.integers.specs.SignsLaws.{eq-eqZ}
 use Rattle.rules.specs.declared.Opening.{Opening}
 use Rattle.rules.specs.declared.Sample.{Sample}
 use Rattle.rules.specs.declared.Bracket.{Bracket}
 use Rattle.rules.specs.declared.Progress.{Progress}
 use Rattle.rules.specs.declared.Report.{Report}
-use Rattle.rules.specs.Rules.{highest, slots, firstOf, secondOf, startOf, nextOf, advanceOf}
+use Rattle.rules.specs.Rules.{highest, slots, padded, firstOf, secondOf, startOf, nextOf, advanceOf}
 use Rattle.rules.specs.Refusals.{Accepted}
 use Rattle.rules.specs.RefusalsLaws.{Opened, opened, Ranged}
 use Rattle.rules.specs.Search.{isRefused, takenOf, otherAt, enteredAt, answeredAt, offerOf, takeOf, progressOf, answersOf, reportAt}
 use Rattle.rules.specs.SearchLaws.{Sound, ahead, counts, most-slots}
-use Rattle.held.specs.declared.Search.{Search}
 use Rattle.held.specs.declared.Entered.{Entered}
-use Rattle.held.specs.Held.{valuesOf, standingOf, withValue, triedOf, enterOf}
+use Rattle.held.specs.Held.{valuesOf, standingOf, heldReport, withValue, triedOf, enterOf}
 use Rattle.held.specs.HeldLaws.{enter-refused, enter-accepted}
 use Rattle.forms.specs.declared.Entries.{Entries}
 use Rattle.forms.specs.Entries.{filled, entriesOf}
-use Rattle.sheet.specs.Sheet.{leadsTo, settledAs, sheetOf}
-use Rattle.sheet.specs.SheetLaws.{outcome-accepted, sheet-read}
+use Rattle.forms.specs.ReadingLaws.{set-padded}
+use Rattle.outcomes.specs.Sheet.{leadsTo, settledAs, sheetOf}
+use Rattle.outcomes.specs.SheetLaws.{outcome-accepted, sheet-read}
 use Rattle.journal.specs.Answers.{Answer, answerValue, points, values}
 use Rattle.journal.specs.Answers as Answers
 use Rattle.journal.specs.Journal.{sampleOf, advancedBy, bracketOf, pointCalled, journalReport, refusalOf, takes, journalWith, toldOf}
-use Rattle.journal.specs.SpellingLaws.{Short, ShortOpening, ShortAnswers}
-use Rattle.journal.specs.JournalLaws.{stageOf, refusal-stage, Onward, At, Kept, Fine, fine, kept-more, first-taken, second-taken, next-taken, kept-progress, sample-is, report-stage, at-most-answers, step-sound, start-sound}
-
--- ---- the search that holds a journal's values
-
--- the opening, n as its count, the values in its first n slots in order, and 0 in the others
-abbrev pub slotsOf : List ℤ → List ℤ
-slotsOf vs = vs ++ replicate (slots - length vs) (pos 0)
-
-abbrev pub holding : Opening → List Answer → Search
-holding o journal = record { opening = o; count = length journal; slots = slotsOf (values journal) }
+use Rattle.journal.specs.Run.{holding}
+use Rattle.journal.specs.SpellingLaws.{Spellable, SpellableOpening, SpellableAnswers}
+use Rattle.journal.specs.JournalLaws.{stageOf, refusal-stage, Onward, At, Kept, Fine, fine, kept-more, first-taken, second-taken}
+use Rattle.journal.specs.JournalLaws.{next-taken, kept-progress, sample-is, report-stage, at-most-answers, step-sound, start-sound}
 
 -- ---- the journal's stage with one answer more
 
@@ -51,7 +45,8 @@ advanced-more : (k : Bracket) (rest : List Answer) (a : Answer) → advancedBy k
 advanced-more k [] a = refl
 advanced-more k (x ∷ rest) a = advanced-more (advanceOf k (sampleOf x)) rest a
 
-stage-more : (o : Opening) (journal : List Answer) (a : Answer) → Kept o journal → Fine o journal a → enteredAt o (stageOf journal) (a .value) ≡ stageOf (journal ++ (a ∷ []))
+stage-more : (o : Opening) (journal : List Answer) (a : Answer) → Kept o journal → Fine o journal a
+    → enteredAt o (stageOf journal) (a .value) ≡ stageOf (journal ++ (a ∷ []))
 unfolding pointCalled
 stage-more o [] a k f = refl
 stage-more o (x ∷ []) a k f =
@@ -65,7 +60,8 @@ stage-fine [] = refl
 stage-fine (x ∷ []) = refl
 stage-fine (x ∷ y ∷ rest) = refl
 
-offer-stage : (o : Opening) (journal : List Answer) (other : Bool) (v : ℤ) → offerOf o (stageOf journal) other v ≡ answeredAt o (stageOf journal) other v
+offer-stage : (o : Opening) (journal : List Answer) (other : Bool) (v : ℤ)
+    → offerOf o (stageOf journal) other v ≡ answeredAt o (stageOf journal) other v
 unfolding offerOf
 offer-stage o [] other v = refl
 offer-stage o (x ∷ []) other v = refl
@@ -83,7 +79,7 @@ module _ (o : Opening) (accepted : Accepted o) where
     as-many : length (values journal) ≡ length journal
     as-many = length-map journal answerValue
 
-    pub slots-full : length (slotsOf (values journal)) ≡ slots
+    pub slots-full : length (padded (values journal)) ≡ slots
     slots-full = simp (length-append, length-replicate) (omega (arith, journal-fits, as-many))
 
     pub values-held : valuesOf (holding o journal) ≡ values journal
@@ -102,6 +98,11 @@ module _ (o : Opening) (accepted : Accepted o) where
         go (x ∷ y ∷ rest) e =
             counts o accepted (values journal) (bracketOf x y rest) (kept-progress o journal accepted kept ∙ ap stageOf e) ∙ as-many
 
+    -- its own report is the journal's
+    pub report-held : heldReport (holding o journal) ≡ journalReport o journal
+    unfolding heldReport
+    report-held = ap (reportAt o) standing-held ∙ sym (report-stage o accepted journal kept)
+
     -- where the search comes to
     tried-held : (a : Answer)
         → triedOf (holding o journal) (a .point) (a .value)
@@ -111,23 +112,15 @@ module _ (o : Opening) (accepted : Accepted o) where
         ∙ offer-stage o journal (otherAt o (stageOf journal) (a .point)) (a .value)
         ∙ ap₂ (λ (n i : ℕ). cond (eqb n 0) (enteredAt o (stageOf journal) (a .value)) (Progress.Refused n i)) (sym (refusal-stage o journal a)) taken-stage
 
--- a value in the next slot
-slots-set : (vs : List ℤ) (v : ℤ) → length vs < slots → slotsOf (vs ++ (v ∷ [])) ≡ set (slotsOf vs) (length vs) v
-slots-set vs v h =
-    let m = slots - suc (length vs) in
-    let e : slots - length vs ≡ suc m = omega arith in
-    let f : slots - length (vs ++ (v ∷ [])) ≡ m = omega (arith, length-append vs (v ∷ [])) in
-    ap (λ (n : ℕ). (vs ++ (v ∷ [])) ++ replicate n (pos 0)) f
-    ∙ append-assoc vs (v ∷ []) (replicate m (pos 0))
-    ∙ sym (set-at vs (pos 0) (replicate m (pos 0)) v (length vs) refl)
-    ∙ ap (λ (n : ℕ). set (vs ++ replicate n (pos 0)) (length vs) v) (sym e)
-
-search-more : (o : Opening) (journal : List Answer) (a : Answer) → length journal < slots → holding o (journal ++ (a ∷ [])) ≡ withValue (holding o journal) (a .value)
+search-more : (o : Opening) (journal : List Answer) (a : Answer) → length journal < slots
+    → holding o (journal ++ (a ∷ [])) ≡ withValue (holding o journal) (a .value)
 search-more o journal a h =
     let n : length (values journal) ≡ length journal = length-map journal answerValue in
     let c : length (journal ++ (a ∷ [])) ≡ length journal + 1 = length-append journal (a ∷ []) in
-    let s : slotsOf (values (journal ++ (a ∷ []))) ≡ set (slotsOf (values journal)) (length journal) (a .value) =
-    ap slotsOf (map-more journal a) ∙ slots-set (values journal) (a .value) (omega arith) ∙ ap (λ (i : ℕ). set (slotsOf (values journal)) i (a .value)) n in
+    let s : padded (values (journal ++ (a ∷ []))) ≡ set (padded (values journal)) (length journal) (a .value) =
+    ap padded (map-more journal a)
+    ∙ sym (set-padded (values journal) (a .value) (omega arith))
+    ∙ ap (λ (i : ℕ). set (padded (values journal)) i (a .value)) n in
     ap₂ (λ (i : ℕ) (l : List ℤ). record { opening = o; count = i; slots = l }) c s
 
 -- ---- one call
@@ -141,14 +134,20 @@ module _ (o : Opening) (accepted : Accepted o) (journal : List Answer) (kept : K
       go true e = kept-more o journal a kept (fine o journal a e)
       go false e = kept
 
-  pub call-answers : enterOf (holding o journal) (a .point) (a .value) ≡ record { report = toldOf o journal a; search = holding o (journalWith o journal a) }
+  -- what the call answers, and the search that it leaves
+  pub call-answers : enterOf (holding o journal) (a .point) (a .value)
+      ≡ record { report = toldOf o journal a; search = holding o (journalWith o journal a) }
   unfolding toldOf journalWith reportAt
   call-answers = go (takes o journal a) refl (tried-held o accepted journal kept a)
     where
       go : (b : Bool) → takes o journal a ≡ b
-          → triedOf (holding o journal) (a .point) (a .value) ≡ cond b (enteredAt o (stageOf journal) (a .value)) (Progress.Refused (refusalOf o journal a) (length journal))
+          → triedOf (holding o journal) (a .point) (a .value)
+          ≡ cond b (enteredAt o (stageOf journal) (a .value)) (Progress.Refused (refusalOf o journal a) (length journal))
           → enterOf (holding o journal) (a .point) (a .value)
-          ≡ record { report = cond b (journalReport o (journal ++ (a ∷ []))) (Report.Refused (refusalOf o journal a) (length journal)); search = holding o (cond b (journal ++ (a ∷ [])) journal) }
+          ≡ record {
+            report = cond b (journalReport o (journal ++ (a ∷ []))) (Report.Refused (refusalOf o journal a) (length journal));
+            search = holding o (cond b (journal ++ (a ∷ [])) journal);
+          }
       go true e t =
           let f = fine o journal a e in
           let m = kept-more o journal a kept f in
@@ -162,12 +161,14 @@ module _ (o : Opening) (accepted : Accepted o) (journal : List Answer) (kept : K
           (search-more o journal a (omega (arith, journal-fits o accepted (journal ++ (a ∷ [])) m, length-append journal (a ∷ [])))))
       go false e t =
           sym
-          (enter-refused (holding o journal) (a .point) (a .value) (Progress.Refused (refusalOf o journal a) (length journal)) (Report.Refused (refusalOf o journal a) (length journal)) (sym t) refl refl)
+          (enter-refused (holding o journal) (a .point) (a .value) (Progress.Refused (refusalOf o journal a) (length journal))
+          (Report.Refused (refusalOf o journal a) (length journal)) (sym t) refl refl)
 
 -- ---- a sheet of the journal
 
 -- an answer at the point called for is taken as its value alone is
-called-is : (o : Opening) (p : Progress) (a : Answer) → otherAt o p (a .point) ≡ false → offerOf o p (otherAt o p (a .point)) (a .value) ≡ takeOf o p (a .value)
+called-is : (o : Opening) (p : Progress) (a : Answer) → otherAt o p (a .point) ≡ false
+    → offerOf o p (otherAt o p (a .point)) (a .value) ≡ takeOf o p (a .value)
 unfolding takeOf
 called-is o p a e = ap (λ (b : Bool). offerOf o p b (a .value)) e
 
@@ -205,57 +206,57 @@ settled-stage e (x ∷ []) = refl
 settled-stage e (x ∷ y ∷ rest) = refl
 
 module _ (o : Opening) (accepted : Accepted o) (journal : List Answer) (kept : Kept o journal) where
-  abbrev entered : Entries
-  entered = filled o (points journal) (values journal)
+  abbrev journalEntries : Entries
+  journalEntries = filled o (points journal) (values journal)
 
-  leads-to : leadsTo entered ≡ stageOf journal
+  leads-to : leadsTo journalEntries ≡ stageOf journal
   leads-to =
       let m : length (values journal) ≡ length (points journal) = length-map journal answerValue ∙ sym (length-map journal Answers.answerPoint) in
       ap₂ (answersOf o Progress.Begun) (take-at (points journal) _ _ refl) (take-at (values journal) _ _ m)
       ∙ answers-kept o journal kept
 
-  pub report-sheet : (text : List ℕ) → entriesOf text ≡ entered → sheetOf text .report ≡ journalReport o journal
+  pub report-sheet : (text : List ℕ) → entriesOf text ≡ journalEntries → sheetOf text .report ≡ journalReport o journal
   report-sheet text e =
       ap (λ (r : Entered). r .report)
-      (sym (sheet-read text entered (sym e) refl) ∙ sym (outcome-accepted entered (accepted .accepted)) ∙ ap (settledAs entered) leads-to)
-      ∙ settled-stage entered journal
+      (sym (sheet-read text journalEntries (sym e) refl) ∙ sym (outcome-accepted journalEntries (accepted .accepted)) ∙ ap (settledAs journalEntries) leads-to)
+      ∙ settled-stage journalEntries journal
       ∙ sym (report-stage o accepted journal kept)
 
 -- ---- the numbers of a journal are short enough to be spelled
 
-short-range : {low high : ℕ} {z : ℤ} → Ranged low high z → high ≤ 99999 → Short z
-short-range r h = omega (arith, r .most)
+spellable-range : {low high : ℕ} {z : ℤ} → Ranged low high z → high ≤ 99999 → Spellable z
+spellable-range r h = omega (arith, r .most)
 
-pub short-opening : (o : Opening) → Opened o → ShortOpening o
-short-opening o op =
+pub spellable-opening : (o : Opening) → Opened o → SpellableOpening o
+spellable-opening o op =
     record {
-      method = short-range (op .method) (omega arith);
-      first = short-range (op .first) (omega arith);
-      second = short-range (op .second) (omega arith);
-      tolerance = short-range (op .tolerance) (omega arith);
+      method = spellable-range (op .method) (omega arith);
+      first = spellable-range (op .first) (omega arith);
+      second = spellable-range (op .second) (omega arith);
+      tolerance = spellable-range (op .tolerance) (omega arith);
     }
 
-short-point : (z : ℤ) (n : ℕ) → z ≡ pos n → n ≤ highest → Short z
-short-point z n e h = rw e (omega arith)
+spellable-point : (z : ℤ) (n : ℕ) → z ≡ pos n → n ≤ highest → Spellable z
+spellable-point z n e h = rw e (omega arith)
 
 module _ (o : Opening) (op : Opened o) where
-  short-onward : (k : Bracket) (rest : List Answer) → Sound o k → Onward o k rest → ShortAnswers rest
-  short-onward k [] s w = tt
-  short-onward k (a ∷ rest) s w =
+  spellable-onward : (k : Bracket) (rest : List Answer) → Sound o k → Onward o k rest → SpellableAnswers rest
+  spellable-onward k [] s w = tt
+  spellable-onward k (a ∷ rest) s w =
       let n = w .0 in
       let p = ahead o k (pos 0) op s (n .going) in (
-        short-point (a .point) (nextOf o k) (n .called) (omega (arith, p .below, s .limits .better .point, s .limits .other .point)),
+        spellable-point (a .point) (nextOf o k) (n .called) (omega (arith, p .below, s .limits .better .point, s .limits .other .point)),
         omega (arith, n .ranged),
-        short-onward (advanceOf k (sampleOf a)) rest (step-sound o op k a s n) (w .1),
+        spellable-onward (advanceOf k (sampleOf a)) rest (step-sound o op k a s n) (w .1),
       )
 
-  short-at : (x : ℕ) (a : Answer) → x ≤ highest → At x a → Short (a .point) × Short (a .value)
-  short-at x a h p = (short-point (a .point) x (p .called) h, omega (arith, p .ranged))
+  spellable-at : (x : ℕ) (a : Answer) → x ≤ highest → At x a → Spellable (a .point) × Spellable (a .value)
+  spellable-at x a h p = (spellable-point (a .point) x (p .called) h, omega (arith, p .ranged))
 
-  pub short-journal : (journal : List Answer) → Kept o journal → ShortAnswers journal
-  short-journal [] k = tt
-  short-journal (a ∷ []) k = let p = short-at (firstOf o) a (op .first .most) k in (p .0, p .1, tt)
-  short-journal (a ∷ b ∷ rest) k =
-      let p = short-at (firstOf o) a (op .first .most) (k .0) in
-      let q = short-at (secondOf o) b (op .second .most) (k .1) in
-      (p .0, p .1, (q .0, q .1, short-onward (startOf (sampleOf a) (sampleOf b)) rest (start-sound o op a b (k .0) (k .1) (k .2)) (k .3)))
+  pub spellable-journal : (journal : List Answer) → Kept o journal → SpellableAnswers journal
+  spellable-journal [] k = tt
+  spellable-journal (a ∷ []) k = let p = spellable-at (firstOf o) a (op .first .most) k in (p .0, p .1, tt)
+  spellable-journal (a ∷ b ∷ rest) k =
+      let p = spellable-at (firstOf o) a (op .first .most) (k .0) in
+      let q = spellable-at (secondOf o) b (op .second .most) (k .1) in
+      (p .0, p .1, (q .0, q .1, spellable-onward (startOf (sampleOf a) (sampleOf b)) rest (start-sound o op a b (k .0) (k .1) (k .2)) (k .3)))

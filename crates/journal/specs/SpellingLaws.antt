@@ -1,36 +1,39 @@
--- Laws of the spelling: a sheet in any spelling is read as its numbers; every opening and list of answers whose numbers have five
--- digits at most has a text; and no text spells two of them. No bound on the length of a text is asked.
+-- Laws of the spelling, both ways: a sheet in any spelling is read as its numbers, and what is read is spelled. No bound on the length
+-- of a text is asked. Then: every opening and list of answers whose numbers have five digits at most has a text.
 -- Assumes nothing.
-use Prim.Native.Nat.{ℕ, zero, suc, _/_, _%_, _^_, _≤_, _<_}
-use mathlib.Core.Path.{_≡_, refl, sym, ap, _∙_}
-use mathlib.Core.List.{List, [], _∷_, _++_, map, append-assoc}
+use Prim.Native.Nat.{ℕ, zero, suc, _+_, _-_, _*_, _/_, _%_, _^_, _≤_, _<_}
+use mathlib.Core.Path.{_≡_, refl, sym, ap, subst, subst₂, _∙_}
+use mathlib.Core.Bool.{true}
+use mathlib.Core.List.{List, [], _∷_, _++_, map, append-nil, append-assoc}
 use native.Mathlib.Nat.{pow-suc, div-add-mod'}
 use native.Mathlib.Omega.{arith}
 use lib.ListN.{length, take, length-append, length-map}
-use lib.Seq.{take-at}
+use lib.Seq.{take-at, append-snoc}
 use lib.IntN.{ℤ, pos, negsuc, natAbs}
 use Rattle.rules.specs.declared.Opening.{Opening}
-use Rattle.rules.specs.Rules.{slots}
+use Rattle.rules.specs.Rules.{slots, padded}
 use Rattle.forms.specs.declared.Number.{Number}
+use Rattle.forms.specs.declared.Form.{Form}
 use Rattle.forms.specs.declared.Entries.{Entries}
-use Rattle.forms.specs.Number.{valueFrom, valueOf, numberOf}
-use Rattle.forms.specs.NumberLaws.{Digits as AllDigits, numeral, digits-read, minus-read, value-last}
-use Rattle.forms.specs.TextLaws.{textOf}
+use Rattle.forms.specs.Bytes.{cr, lf, comma}
+use Rattle.forms.specs.Number.{isDigit, allDigits, valueFrom, valueOf, numberOf}
+use Rattle.forms.specs.NumberLaws.{digit-bytes, bytes-digit, digits-head, digits-last, value-last, numeral, IsNumeral, digits-read, minus-read}
+use Rattle.forms.specs.NumberLaws.{NumberText, number-text}
+use Rattle.forms.specs.TextLaws.{ended, textOf}
 use Rattle.forms.specs.FieldLaws.{joined}
-use Rattle.forms.specs.Entries.{padded, filled, entriesOf}
-use Rattle.forms.specs.ReadingLaws.{Spells, SpellsAnswers, entries-read}
+use Rattle.forms.specs.Entries.{filled, entriesOf}
+use Rattle.forms.specs.ReadingLaws.{Spells, openingNumbers, SpellsAnswers, entries-read}
+use Rattle.forms.specs.TakenLaws.{Laid, entries-laid}
 use Rattle.journal.specs.Answers.{Answer, points, values}
 use Rattle.journal.specs.Spelling.{digit, Digits, Numeral, AnswersText, SheetText}
+use Rattle.journal.specs.Reading.{ReadAs, Reading}
 
 -- ---- a numeral is read as its number
 
-digits-last : (s : List ℕ) {d : ℕ} → AllDigits s → d ≤ 9 → AllDigits (s ++ digit d ∷ [])
-digits-last [] a h = (omega arith, omega arith, tt)
-digits-last (b ∷ s) a h = (a .0, a .1, digits-last s (a .2) h)
-
-all-digits : {s : List ℕ} {n : ℕ} → Digits s n → AllDigits s
-all-digits (Digits.one d h) = digits-last [] tt h
-all-digits (Digits.more {s} r d h) = digits-last s (all-digits r) h
+all-digits : {s : List ℕ} {n : ℕ} → Digits s n → allDigits s ≡ true
+unfolding allDigits
+all-digits (Digits.one d h) = digits-last [] (digit d) refl (bytes-digit (digit d) (omega arith) (omega arith))
+all-digits (Digits.more {s} r d h) = digits-last s (digit d) (all-digits r) (bytes-digit (digit d) (omega arith) (omega arith))
 
 some-digit : {s : List ℕ} {n : ℕ} → Digits s n → 1 ≤ length s
 some-digit (Digits.one d h) = omega arith
@@ -42,22 +45,55 @@ digits-value (Digits.one d h) = omega arith
 digits-value (Digits.more {s} r d h) = omega (arith, value-last 0 s (digit d), digits-value r)
 
 pub numeral-read : {f : List ℕ} {z : ℤ} → Numeral f z → numberOf f ≡ Number.Is z
-numeral-read (Numeral.plain {s} r h) = cc (digits-read s (numeral s (some-digit r) h (all-digits r)), digits-value r)
-numeral-read (Numeral.negated {s} r h) = cc (minus-read s (numeral s (some-digit r) h (all-digits r)), digits-value r)
+numeral-read (Numeral.plain {s} r h) = cc (digits-read s (numeral s (some-digit r) (omega arith) (all-digits r)), digits-value r)
+numeral-read (Numeral.negated {s} r h) = cc (minus-read s (numeral s (some-digit r) (omega arith) (all-digits r)), digits-value r)
+
+-- ---- and what is read as a number is its numeral
+
+-- a byte that is a digit's
+digit-is : (b : ℕ) → isDigit b ≡ true → (digit (b - 48) ≡ b) × (b - 48 ≤ 9)
+digit-is b e = let h = digit-bytes b e in let l = h .0 in let m = h .1 in (omega arith, omega arith)
+
+-- the digits t after those that make n
+digits-after : {s : List ℕ} {n : ℕ} (t : List ℕ) → Digits s n → allDigits t ≡ true → Digits (s ++ t) (valueFrom n t)
+unfolding valueFrom
+digits-after {s} [] r e = rw (append-nil s) r
+digits-after {s} {n} (b ∷ t) r e =
+    let h = digits-head b t e in
+    let d = digit-is b (h .0) in
+    let m : Digits (s ++ b ∷ []) (n * 10 + (b - 48)) =
+    subst (λ (c : ℕ). Digits (s ++ c ∷ []) (n * 10 + (b - 48))) (d .0) (Digits.more r (b - 48) (omega (arith, d .1))) in
+    subst (λ (u : List ℕ). Digits u (valueFrom (n * 10 + (b - 48)) t)) (append-snoc s b t) (digits-after t m (h .1))
+
+digits-of-value : (s : List ℕ) → IsNumeral s → Digits s (valueOf s)
+unfolding valueFrom
+digits-of-value [] n = absurd (omega (arith, n .some))
+digits-of-value (b ∷ t) n =
+    let h = digits-head b t (n .digits) in
+    let d = digit-is b (h .0) in
+    let z : b - 48 ≡ 0 * 10 + (b - 48) = omega arith in
+    digits-after t (subst₂ (λ (c k : ℕ). Digits (c ∷ []) k) (d .0) z (Digits.one (b - 48) (omega (arith, d .1)))) (h .1)
+
+number-numeral : {f : List ℕ} {z : ℤ} → NumberText f z → Numeral f z
+number-numeral (NumberText.plain {s} n) = Numeral.plain (digits-of-value s n) (omega (arith, n .few))
+number-numeral (NumberText.negated {s} n) = Numeral.negated (digits-of-value s n) (omega (arith, n .few))
+
+pub read-numeral : {f : List ℕ} {z : ℤ} → numberOf f ≡ Number.Is z → Numeral f z
+read-numeral {f} {z} e = number-numeral (number-text f z e)
 
 -- ---- a text is read as its numbers
 
 -- a text of answers falls into rows of fields
-record Rows (t : List ℕ) (answers : List Answer) : Type 0 where
+record Fielded (t : List ℕ) (answers : List Answer) : Type 0 where
   rows : List (List (List ℕ))
   spelled : SpellsAnswers rows (points answers) (values answers)
   text : textOf (map joined rows) ≡ t
   count : length rows ≡ length answers
 
-answers-rows : {t : List ℕ} {answers : List Answer} → AnswersText t answers → Rows t answers
-answers-rows AnswersText.none = record { rows = []; spelled = SpellsAnswers.no-answer; text = refl; count = refl }
-answers-rows (AnswersText.next {f} {g} p v r) =
-    let k = answers-rows r in
+answers-fielded : {t : List ℕ} {answers : List Answer} → AnswersText t answers → Fielded t answers
+answers-fielded AnswersText.none = record { rows = []; spelled = SpellsAnswers.no-answer; text = refl; count = refl }
+answers-fielded (AnswersText.next {f} {g} p v r) =
+    let k = answers-fielded r in
     record {
       rows = (f ∷ g ∷ []) ∷ k .rows;
       spelled = SpellsAnswers.one-answer (Spells.more (numeral-read p) (Spells.more (numeral-read v) Spells.none)) (k .spelled);
@@ -66,59 +102,58 @@ answers-rows (AnswersText.next {f} {g} p v r) =
     }
 
 -- a sheet in any spelling is read as its numbers
-pub spelled-entries : {t : List ℕ} {o : Opening} {answers : List Answer} → SheetText t o answers → length answers ≤ slots
-    → entriesOf t ≡ filled o (points answers) (values answers)
-spelled-entries (SheetText.sheet {o = o} m x y w r) l =
-    let a = answers-rows r in
+pub spelled-read : {t : List ℕ} {o : Opening} {answers : List Answer} → SheetText t o answers → length answers ≤ slots → ReadAs t o answers
+spelled-read (SheetText.sheet {o = o} m x y w r) l =
+    let a = answers-fielded r in
     let row = Spells.more (numeral-read m) (Spells.more (numeral-read x) (Spells.more (numeral-read y) (Spells.more (numeral-read w) Spells.none))) in
     simp append-assoc (simp (append-assoc, a .text) at (entries-read o row (a .spelled) (omega arith)))
 
--- ---- every opening and list of answers has a text
+-- ---- and what is read is spelled
 
--- a number of five digits at most
-abbrev pub Short : ℤ → Type 0
-Short z = natAbs z ≤ 99999
+-- rows of fields are a text of answers
+record Answered (rows : List (List (List ℕ))) : Type 0 where
+  answers : List Answer
+  text : AnswersText (textOf (map joined rows)) answers
+  count : length answers ≡ length rows
 
-pub record ShortOpening (o : Opening) : Type 0 where
-  pub method : Short (o .method)
-  pub first : Short (o .first)
-  pub second : Short (o .second)
-  pub tolerance : Short (o .tolerance)
+rows-answered : {rows : List (List (List ℕ))} {ps vs : List ℤ} → SpellsAnswers rows ps vs → Answered rows
+rows-answered SpellsAnswers.no-answer = record { answers = []; text = AnswersText.none; count = refl }
+rows-answered (SpellsAnswers.one-answer {rows = rows} {point = p} {value = v} (Spells.more {f} e (Spells.more {f = g} d Spells.none)) h) =
+    let k = rows-answered h in
+    let a : Answer = record { point = p; value = v } in
+    let t = AnswersText.next {a = a} (read-numeral e) (read-numeral d) (k .text) in
+    record {
+      answers = a ∷ k .answers;
+      text = subst (λ (s : List ℕ). AnswersText s (a ∷ k .answers)) (sym (append-assoc (f ++ comma ∷ g) (cr ∷ lf ∷ []) (textOf (map joined rows)))) t;
+      count = ap suc (k .count);
+    }
 
-abbrev pub ShortAnswers : List Answer → Type 0
-ShortAnswers [] = Unit {0}
-ShortAnswers (a ∷ answers) = Short (a .point) × Short (a .value) × ShortAnswers answers
+-- the opening and the answers that a text spells, as many as the slots can hold
+pub record Spelled (text : List ℕ) : Type 0 where
+  pub opening : Opening
+  pub answers : List Answer
+  pub spells : SheetText text opening answers
+  pub few : length answers ≤ slots
 
--- with leading zeros, in k + 1 digits
-digits-of : (k n : ℕ) → n < 10 ^ suc k → (s : List ℕ) × Digits s n × (length s ≡ suc k)
-digits-of zero n h = (digit n ∷ [], Digits.one n (omega arith), refl)
-digits-of (suc k) n h =
-    let r = digits-of k (n / 10) (omega (arith, pow-suc 10 (suc k))) in
-    let g = Digits.more (r .1) (n % 10) (omega arith) in
-    (_, rw (div-add-mod' n 10) at g, omega (arith, r .2, length-append (r .0) (digit (n % 10) ∷ [])))
+head-spelled : {head : List (List ℕ)} {t : List ℕ} (o : Opening) {answers : List Answer}
+    → Spells head (openingNumbers o) → AnswersText t answers → SheetText (ended (joined head) ++ t) o answers
+head-spelled o (Spells.more m (Spells.more x (Spells.more y (Spells.more w Spells.none)))) a =
+    simp append-assoc (simp append-assoc at (SheetText.sheet {o = o} (read-numeral m) (read-numeral x) (read-numeral y) (read-numeral w) a))
 
-numeral-of : (z : ℤ) → Short z → (f : List ℕ) × Numeral f z
-numeral-of (pos n) h =
-    let r = digits-of 4 n (omega arith) in
-    (_, Numeral.plain (r .1) (omega (arith, r .2)))
-numeral-of (negsuc n) h =
-    let r = digits-of 4 (suc n) (omega arith) in
-    (_, Numeral.negated (r .1) (omega (arith, r .2)))
+laid-spelled : {text : List ℕ} → Laid text → Spelled text
+laid-spelled l =
+    let k = rows-answered (l .spelled-rows) in
+    record {
+      opening = l .opening;
+      answers = k .answers;
+      spells = subst (λ (t : List ℕ). SheetText t (l .opening) (k .answers)) (l .whole) (head-spelled (l .opening) (l .spelled-head) (k .text));
+      few = omega (arith, l .few, k .count);
+    }
 
-answers-text : (answers : List Answer) → ShortAnswers answers → (t : List ℕ) × AnswersText t answers
-answers-text [] h = (_, AnswersText.none)
-answers-text (a ∷ answers) h =
-    (_, AnswersText.next (numeral-of (a .point) (h .0) .1) (numeral-of (a .value) (h .1) .1) (answers-text answers (h .2) .1))
+pub read-spelled : (text : List ℕ) → entriesOf text .form ≡ Form.Read → Spelled text
+read-spelled text e = laid-spelled (entries-laid text e)
 
-pub has-text : (o : Opening) (answers : List Answer) → ShortOpening o → ShortAnswers answers → (t : List ℕ) × SheetText t o answers
-has-text o answers h k =
-    let m = numeral-of (o .method) (h .method) in
-    let x = numeral-of (o .first) (h .first) in
-    let y = numeral-of (o .second) (h .second) in
-    let w = numeral-of (o .tolerance) (h .tolerance) in
-    (_, SheetText.sheet (m .1) (x .1) (y .1) (w .1) (answers-text answers k .1))
-
--- ---- a text spells one opening and one list of answers
+-- ---- a text is read as one opening and one list of answers
 
 padded-once : (xs ys : List ℤ) → length xs ≡ length ys → padded xs ≡ padded ys → xs ≡ ys
 padded-once xs ys l e = sym (take-at xs _ _ refl) ∙ ap (take (length xs)) e ∙ take-at ys _ _ (sym l)
@@ -133,13 +168,71 @@ answers-once (x ∷ xs) (y ∷ ys) p v =
     let r : xs ≡ ys = answers-once xs ys (cc) (cc) in
     λ i. record { point = q i; value = w i } ∷ r i
 
--- of two spellings of one text, each within the slots
-pub one-reading : {t : List ℕ} {o u : Opening} {xs ys : List Answer} → SheetText t o xs → SheetText t u ys → length xs ≤ slots → length ys ≤ slots
-    → (o ≡ u) × (xs ≡ ys)
-one-reading {o = o} {u} {xs} {ys} a b h k =
-    let e : filled o (points xs) (values xs) ≡ filled u (points ys) (values ys) = sym (spelled-entries a h) ∙ spelled-entries b k in
+filled-once : (o u : Opening) (xs ys : List Answer) → filled o (points xs) (values xs) ≡ filled u (points ys) (values ys) → (o ≡ u) × (xs ≡ ys)
+filled-once o u xs ys e =
     let l : length (points xs) ≡ length (points ys) = ap (λ (x : Entries). x .count) e in
     let m : length (values xs) ≡ length (values ys) = simp length-map (simp length-map at l) in
     let p = padded-once (points xs) (points ys) l (ap (λ (x : Entries). x .points) e) in
     let v = padded-once (values xs) (values ys) m (ap (λ (x : Entries). x .values) e) in
     (ap (λ (x : Entries). x .opening) e, answers-once xs ys p v)
+
+-- ---- the claim about the reader
+
+pub reading : (text : List ℕ) → Reading text
+reading text =
+    record {
+      exactly = λ o answers. (back o answers, λ h. spelled-read (h .0) (h .1));
+      taken = λ e. let s = read-spelled text e in (s .opening, s .answers, spelled-read (s .spells) (s .few));
+      once = λ o u xs ys a b. filled-once o u xs ys (sym a ∙ b);
+    }
+  where
+    back : (o : Opening) (answers : List Answer) → ReadAs text o answers → SheetText text o answers × (length answers ≤ slots)
+    back o answers r =
+        let s = read-spelled text (ap (λ (x : Entries). x .form) r) in
+        let e = filled-once (s .opening) o (s .answers) answers (sym (spelled-read (s .spells) (s .few)) ∙ r) in
+        (subst₂ (SheetText text) (e .0) (e .1) (s .spells), subst (λ (xs : List Answer). length xs ≤ slots) (e .1) (s .few))
+
+-- ---- every opening and list of answers has a text
+
+-- a number of five digits at most
+abbrev pub Spellable : ℤ → Type 0
+Spellable z = natAbs z ≤ 99999
+
+pub record SpellableOpening (o : Opening) : Type 0 where
+  pub method : Spellable (o .method)
+  pub first : Spellable (o .first)
+  pub second : Spellable (o .second)
+  pub tolerance : Spellable (o .tolerance)
+
+abbrev pub SpellableAnswers : List Answer → Type 0
+SpellableAnswers [] = Unit {0}
+SpellableAnswers (a ∷ answers) = Spellable (a .point) × Spellable (a .value) × SpellableAnswers answers
+
+-- with leading zeros, in k + 1 digits
+digits-of : (k n : ℕ) → n < 10 ^ suc k → (s : List ℕ) × Digits s n × (length s ≡ suc k)
+digits-of zero n h = (digit n ∷ [], Digits.one n (omega arith), refl)
+digits-of (suc k) n h =
+    let r = digits-of k (n / 10) (omega (arith, pow-suc 10 (suc k))) in
+    let g = Digits.more (r .1) (n % 10) (omega arith) in
+    (_, rw (div-add-mod' n 10) at g, omega (arith, r .2, length-append (r .0) (digit (n % 10) ∷ [])))
+
+numeral-of : (z : ℤ) → Spellable z → (f : List ℕ) × Numeral f z
+numeral-of (pos n) h =
+    let r = digits-of 4 n (omega arith) in
+    (_, Numeral.plain (r .1) (omega (arith, r .2)))
+numeral-of (negsuc n) h =
+    let r = digits-of 4 (suc n) (omega arith) in
+    (_, Numeral.negated (r .1) (omega (arith, r .2)))
+
+answers-text : (answers : List Answer) → SpellableAnswers answers → (t : List ℕ) × AnswersText t answers
+answers-text [] h = (_, AnswersText.none)
+answers-text (a ∷ answers) h =
+    (_, AnswersText.next (numeral-of (a .point) (h .0) .1) (numeral-of (a .value) (h .1) .1) (answers-text answers (h .2) .1))
+
+pub has-text : (o : Opening) (answers : List Answer) → SpellableOpening o → SpellableAnswers answers → (t : List ℕ) × SheetText t o answers
+has-text o answers h k =
+    let m = numeral-of (o .method) (h .method) in
+    let x = numeral-of (o .first) (h .first) in
+    let y = numeral-of (o .second) (h .second) in
+    let w = numeral-of (o .tolerance) (h .tolerance) in
+    (_, SheetText.sheet (m .1) (x .1) (y .1) (w .1) (answers-text answers k .1))

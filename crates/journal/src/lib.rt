@@ -1,1 +1,2 @@
-// The trial book and the claim about whole runs. There is no function here: see specs/.
+// The journal, which is document 01's trial book; the spelling of sheets; the claim about whole runs. There is no function here: see
+// specs/.

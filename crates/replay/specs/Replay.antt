@@ -14,8 +14,7 @@ use Rattle.rules.specs.Rows.{rowOf, rowNumbers}
 use Rattle.held.specs.Held.{blank}
 use Rattle.journal.specs.Answers.{Answer}
 use Rattle.journal.specs.Journal.{journalReport, toldAll}
-use Rattle.journal.specs.RunLaws.{holding}
-use Rattle.journal.specs.Run.{Call, byValue, into, offered, journalOf, Run}
+use Rattle.journal.specs.Run.{Call, byValue, into, offered, journalOf, holding, Run}
 use Rattle.replay.specs.declared.Replayed.{Replayed}
 
 -- ---- the calls

@@ -8,16 +8,17 @@ use mathlib.Core.List.{List, []}
 use borrow.Author.Tests.{eqb-true, eq-eqb}
 use lib.Dec.{eqb}
 use lib.IntN.{ℤ}
-use Rattle.integers.specs.Signs.{never}
+use Rattle.integers.specs.SignsLaws.{never}
 use Rattle.rules.specs.declared.Opening.{Opening}
 use Rattle.rules.specs.declared.Report.{Report}
 use Rattle.rules.specs.Refusals.{openingRefusal, Accepted}
 use Rattle.rules.specs.Search.{beginOf, progressOf, reportAt, isRefusal, reportOf}
 use Rattle.held.specs.declared.Search.{Search}
 use Rattle.held.specs.declared.Entered.{Entered}
-use Rattle.held.specs.Held.{freshOf, blank, openOf}
+use Rattle.held.specs.Held.{freshOf, blank, reopenOf, openOf}
 use Rattle.journal.specs.Journal.{pointCalled, journalReport}
-use Rattle.journal.specs.Run.{Call, searchAfter, reportsOf, run}
+use Rattle.journal.specs.Run.{Call, searchAfter, reportsOf}
+use Rattle.journal.specs.RunHolds.{run}
 use Rattle.replay.specs.declared.Replayed.{Replayed}
 use Rattle.replay.specs.Replay.{callsIn, writtenOver, replayOf, listAfter, Replays}
 use Rattle.replay.specs.Calls.{CallsMade}
@@ -29,7 +30,7 @@ module _ (o : Opening) where
   first-report a = simp (eq-eqb (openingRefusal o) 0 (a .accepted))
 
   opened-fresh : Accepted o → openOf o ≡ record { report = journalReport o []; search = freshOf o }
-  unfolding openOf
+  unfolding reopenOf
   opened-fresh a =
       simp (eq-eqb (openingRefusal o) 0 (a .accepted))
       (ap (λ (r : Report). record { report = r; search = freshOf o }) (first-report a))
@@ -46,7 +47,7 @@ module _ (o : Opening) where
       go false e = refl
 
   pub accepted-is : isRefusal (openOf o .report) ≡ false → Accepted o
-  unfolding openOf
+  unfolding reopenOf
   accepted-is h = go (eqb (openingRefusal o) 0) refl
     where
       go : (b : Bool) → eqb (openingRefusal o) 0 ≡ b → Accepted o
@@ -64,7 +65,7 @@ module _ (o : Opening) (ks : List ℕ) (xs vs : List ℤ) (before : List ℕ) {e
 
   -- a refused opening: it is what is answered, and the list stays
   pub replays-refused : b ≡ true → Replays o ks xs vs before (record { opened = e .report; search = e .search }) before
-  unfolding openOf replayOf listAfter
+  unfolding reopenOf replayOf listAfter
   replays-refused h =
       let f = refused-is o (is-so ∙ h) in
       record {

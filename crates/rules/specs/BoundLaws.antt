@@ -4,13 +4,15 @@
 use Prim.Native.Nat.{ℕ, _+_, _-_, _*_, _/_, _^_, _≤_, _<_, zero-le}
 use mathlib.Core.Path.{_≡_, refl, sym, ap, _∙_}
 use mathlib.Core.Bool.{Bool, true, false, cond}
-use native.Mathlib.Nat.{le-trans, pow-suc, mul-comm, mul-assoc, mul-add, mul-one, mul-le-mul-left, mul-le-mul, div-mul-le-self, le-div-iff-mul-le, div-lt-iff-lt-mul, div-div-eq-div-mul}
+use native.Mathlib.Nat.{le-trans, pow-suc, mul-comm, mul-assoc, mul-add, mul-one, mul-le-mul-left, mul-le-mul, div-mul-le-self}
+use native.Mathlib.Nat.{le-div-iff-mul-le, div-lt-iff-lt-mul, div-div-eq-div-mul}
 use native.Mathlib.Numerals.{add-one}
 use native.Mathlib.Omega.{arith}
 use lib.Dec.{leb}
 use lib.Pow.{pow-pos}
 use borrow.Author.Tests.{leb-true, leb-false}
-use Rattle.integers.specs.Digits.{digits, digits-least, digits-le, digits-half, digits-some, Least}
+use Rattle.integers.specs.Digits.{digits, Least}
+use Rattle.integers.specs.DigitsLaws.{digits-least, digits-le, digits-half, digits-some}
 use Rattle.rules.specs.Rules.{streakOf}
 use Rattle.rules.specs.RulesLaws.{Halves}
 use Rattle.rules.specs.Search.{turnsOf}
@@ -19,7 +21,10 @@ use Rattle.rules.specs.Search.{turnsOf}
 
 reorder : (τ t : ℕ) → 2 ^ t * (2 * τ) ≡ τ * 2 ^ (t + 1)
 reorder τ t =
-    mul-comm (2 ^ t) (2 * τ) ∙ ap (λ (x : ℕ). x * 2 ^ t) (mul-comm 2 τ) ∙ mul-assoc τ 2 (2 ^ t) ∙ ap (λ (x : ℕ). τ * x) (mul-comm 2 (2 ^ t) ∙ sym (pow-suc 2 t) ∙ ap (λ (n : ℕ). 2 ^ n) (sym (add-one t)))
+    mul-comm (2 ^ t) (2 * τ)
+    ∙ ap (λ (x : ℕ). x * 2 ^ t) (mul-comm 2 τ)
+    ∙ mul-assoc τ 2 (2 ^ t)
+    ∙ ap (λ (x : ℕ). τ * x) (mul-comm 2 (2 ^ t) ∙ sym (pow-suc 2 t) ∙ ap (λ (n : ℕ). 2 ^ n) (sym (add-one t)))
 
 module _ (τ W : ℕ) (tol : 1 ≤ τ) where
   covered : (t : ℕ) → (W - 1) / (2 * τ) < 2 ^ t → W ≤ τ * 2 ^ (t + 1)
@@ -57,7 +62,10 @@ module _ (τ : ℕ) (tol : 1 ≤ τ) where
   turns-half : (L' L : ℕ) → 2 * τ < L → Halves L L' → turnsOf τ L' + 1 ≤ turnsOf τ L
   unfolding turnsOf
   turns-half L' L g h =
-      let swap : (L - 1) / 2 / (2 * τ) ≡ (L - 1) / (2 * τ) / 2 = div-div-eq-div-mul (L - 1) 2 (2 * τ) ∙ ap (λ (x : ℕ). (L - 1) / x) (mul-comm 2 (2 * τ)) ∙ sym (div-div-eq-div-mul (L - 1) (2 * τ) 2) in
+      let swap : (L - 1) / 2 / (2 * τ) ≡ (L - 1) / (2 * τ) / 2 =
+      div-div-eq-div-mul (L - 1) 2 (2 * τ)
+      ∙ ap (λ (x : ℕ). (L - 1) / x) (mul-comm 2 (2 * τ))
+      ∙ sym (div-div-eq-div-mul (L - 1) (2 * τ) 2) in
       let some : 1 ≤ (L - 1) / (2 * τ) = le-div-iff-mul-le {k = 2 * τ} (omega arith) .1 (omega arith) in
       let half : (L' - 1) / (2 * τ) ≤ (L - 1) / 2 / (2 * τ) = div-le (2 * τ) (omega arith) (omega arith) in
       digits-half some (omega (arith, swap))
@@ -90,7 +98,9 @@ module _ (m τ W n L s : ℕ) (tol : 1 ≤ τ) (b : Bound m τ W n L s) (going :
       go true e =
           record {
             streak = zero-le;
-            left = omega (arith, b .left, b .streak, one-more (m + 1) (turnsOf τ L') (turnsOf τ L) (turns-half τ tol L' L going (leb-true (2 * L') (L + 1) e)));
+            left =
+                omega
+                (arith, b .left, b .streak, one-more (m + 1) (turnsOf τ L') (turnsOf τ L) (turns-half τ tol L' L going (leb-true (2 * L') (L + 1) e)));
             most = omega (arith, bound-below);
           }
       go false e =

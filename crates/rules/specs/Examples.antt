@@ -3,7 +3,7 @@
 use mathlib.Core.Path.{_≡_, refl}
 use mathlib.Core.Bool.{true}
 use lib.IntN.{ℤ, pos, negℤ}
-use Rattle.integers.specs.Digits.{digits, digitsWithin}
+use Rattle.integers.specs.Digits.{digits, halvings}
 use Rattle.rules.specs.declared.Opening.{Opening}
 use Rattle.rules.specs.declared.Sample.{Sample}
 use Rattle.rules.specs.declared.Fraction.{Fraction}
@@ -99,15 +99,15 @@ abbrev opening : ℤ → ℤ → Opening
 opening method tolerance = record { method = method; first = pos 20000; second = pos 0; tolerance = tolerance }
 
 whole-range-by-M : quoteOf (opening (pos 0) (pos 1)) ≡ Quote.Quoted 14 58
-unfolding quoteOf openingRefusal methodOf turnsOf digits digitsWithin
+unfolding quoteOf openingRefusal methodOf turnsOf digits halvings
 whole-range-by-M = refl
 
 whole-range-by-R : quoteOf (opening (pos 2) (pos 1)) ≡ Quote.Quoted 14 72
-unfolding quoteOf openingRefusal methodOf turnsOf digits digitsWithin
+unfolding quoteOf openingRefusal methodOf turnsOf digits halvings
 whole-range-by-R = refl
 
 largest-tolerance : quoteOf (opening (pos 1) (pos 5000)) ≡ Quote.Quoted 1 6
-unfolding quoteOf openingRefusal methodOf turnsOf digits digitsWithin
+unfolding quoteOf openingRefusal methodOf turnsOf digits halvings
 largest-tolerance = refl
 
 quote-refused : quoteOf (opening (pos 1) (pos 0)) ≡ Quote.Refused 4 0
@@ -116,9 +116,9 @@ quote-refused = refl
 
 -- t is 0 up to W = 2τ, and 1 from 2τ + 1 on
 within-tolerance : turnsOf 5 10 ≡ 0
-unfolding turnsOf digits digitsWithin
+unfolding turnsOf digits halvings
 within-tolerance = refl
 
 just-beyond : turnsOf 5 11 ≡ 1
-unfolding turnsOf digits digitsWithin
+unfolding turnsOf digits halvings
 just-beyond = refl

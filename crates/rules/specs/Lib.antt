@@ -6,5 +6,6 @@ pub mod RefusalsLaws
 pub mod BoundLaws
 pub mod SearchLaws
 pub mod Trials
+pub mod Branches
 mod Examples
 pub mod Rows

@@ -7,7 +7,8 @@ use native.Mathlib.Omega.{arith}
 use borrow.Author.Tests.{ltb-false, lt-ltb, le-ltb, le-leb, leb-true}
 use lib.Dec.{ltb}
 use lib.IntN.{ℤ, pos, negsuc, natAbs}
-use Rattle.integers.specs.Signs.{eqZ, eq-eqZ, never, negated, product-above}
+use Rattle.integers.specs.Signs.{eqZ}
+use Rattle.integers.specs.SignsLaws.{eq-eqZ, never, negated, product-above}
 use Rattle.rules.specs.declared.Opening.{Opening}
 use Rattle.rules.specs.Rules.{highest, largestTolerance, opposed}
 use Rattle.rules.specs.Refusals.{outside, sameSide, openingRefusal, answerRefusal, Accepted}

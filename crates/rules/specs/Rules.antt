@@ -1,10 +1,12 @@
 -- Rules 1 to 8 of document 01, in its order and its terms: of a bracket, b is `better`, c `other`, a `previous`, d `third`,
 -- L its width and s its streak; F(p) is the value of the sample p.
 -- Assumes nothing.
-use Prim.Native.Nat.{ℕ, _+_, _-_, _*_, _/_, min, max}
+use Prim.Native.Nat.{ℕ, _+_, _-_, _*_, _/_, _≤_, min, max}
 use mathlib.Core.Bool.{Bool, true, false, cond, _||_}
+use mathlib.Core.List.{List, _++_}
 use lib.Dec.{leb, eqb}
 use lib.IntN.{ℤ, pos, negℤ, natAbs, _-ℤ_, _*ℤ_}
+use lib.ListN.{length, replicate}
 use lib.Signed.{leZ, ltZ, quotZ}
 use Rattle.integers.specs.Signs.{eqZ}
 use Rattle.rules.specs.declared.Opening.{Opening}
@@ -31,6 +33,10 @@ largestValue = 10000
 -- of a held search
 abbrev pub slots : ℕ
 slots = 72
+
+-- 72 slots: numbers in the first of them, in order, and 0 in the others
+abbrev pub padded : List ℤ → List ℤ
+padded zs = zs ++ replicate (slots - length zs) (pos 0)
 
 -- ---- the opening
 
@@ -77,6 +83,11 @@ gapOf p q = (p - q) + (q - p)
 
 abbrev pub widthOf : Bracket → ℕ
 widthOf k = gapOf (k .better .point) (k .other .point)
+
+-- k' lies within k
+pub record Inside (k k' : Bracket) : Type 0 where
+  pub lower : lowerOf k ≤ lowerOf k'
+  pub upper : upperOf k' ≤ upperOf k
 
 -- ---- Rule 2: the search stops when L ≤ 2τ
 

@@ -4,20 +4,24 @@ use Prim.Native.Nat.{ℕ, _+_, _-_, _*_, _/_, _≤_, _<_, min, max}
 use mathlib.Core.Path.{_≡_, refl, sym, ap, _∙_}
 use mathlib.Core.Bool.{Bool, true, false, cond}
 use mathlib.Core.Logic.{_⊎_, inl, inr, ⊎-map}
-use native.Mathlib.Nat.{le-trans, le-of-eq, le-of-lt, mul-assoc, le-of-mul-le-mul-right, div-mul-le-self, mul-le-mul-left, le-div-iff-mul-le}
+use native.Mathlib.Nat.{le-trans, le-of-eq, le-of-lt, mul-assoc, le-of-mul-le-mul-right, div-mul-le-self, mul-le-mul-left}
+use native.Mathlib.Nat.{le-div-iff-mul-le}
 use native.Mathlib.Omega.{arith}
 use borrow.Author.Tests.{leb-true, leb-false, ltb-true, ne-eqb, eq-eqb}
 use lib.Dec.{leb, ltb, eqb}
 use lib.IntN.{ℤ, pos, negsuc, negℤ, natAbs}
 use lib.Signed.{ltZ}
-use Rattle.integers.specs.Signs.{eqZ, never, positive-of-negative, positive-of-neither, crosses-comm, crosses-turn}
+use Rattle.integers.specs.Signs.{eqZ}
+use Rattle.integers.specs.SignsLaws.{never, positive-of-negative, positive-of-neither, crosses-comm, crosses-turn}
 use Rattle.rules.specs.declared.Opening.{Opening}
 use Rattle.rules.specs.declared.Method.{Method}
 use Rattle.rules.specs.declared.Sample.{Sample}
 use Rattle.rules.specs.declared.Bracket.{Bracket}
 use Rattle.rules.specs.declared.Fraction.{Fraction}
 use Rattle.rules.specs.declared.Step.{Step}
-use Rattle.rules.specs.Rules.{toleranceAt, closer, pairOf, startOf, lowerOf, upperOf, gapOf, widthOf, stoppedOf, forwardOf, displacementOf, rising, opposed, partnerOf, streakOf, renewedOf, advanceOf, allowed, stepOf, reachOf, offsetOf, nextOf}
+use Rattle.rules.specs.Rules.{toleranceAt, closer, pairOf, startOf, lowerOf, upperOf, gapOf, widthOf, Inside, stoppedOf, forwardOf}
+use Rattle.rules.specs.Rules.{displacementOf, rising, opposed, partnerOf, streakOf, renewedOf, advanceOf, allowed, stepOf, reachOf}
+use Rattle.rules.specs.Rules.{offsetOf, nextOf}
 
 -- ---- Rule 3: while the search goes on, D is from τ to half of L
 
@@ -98,11 +102,25 @@ module _ (o : Opening) (k : Bracket) (tol : 1 ≤ toleranceAt o (k .better .poin
       go true e =
           let h = leb-true (k .better .point) (k .other .point) e in
           let i = offset-in o k going in
-          record { above = omega arith; below = omega arith; near = omega arith; far = omega arith; some = omega (arith, i .low); short = omega (arith, i .high, i .low) }
+          record {
+            above = omega arith;
+            below = omega arith;
+            near = omega arith;
+            far = omega arith;
+            some = omega (arith, i .low);
+            short = omega (arith, i .high, i .low);
+          }
       go false e =
           let h = leb-false (k .better .point) (k .other .point) e in
           let i = offset-in o k going in
-          record { above = omega arith; below = omega arith; near = omega arith; far = omega arith; some = omega (arith, i .low); short = omega (arith, i .high, i .low) }
+          record {
+            above = omega arith;
+            below = omega arith;
+            near = omega arith;
+            far = omega arith;
+            some = omega (arith, i .low);
+            short = omega (arith, i .high, i .low);
+          }
 
 -- ---- Rule 6: the partner is an end of the old bracket, and not on x's side
 
@@ -147,11 +165,6 @@ module _ (k : Bracket) (x : Sample) (held : Straddles k) where
 
 -- ---- the step from a bracket to the next
 
--- k' lies within k
-pub record Inside (k k' : Bracket) : Type 0 where
-  pub lower : lowerOf k ≤ lowerOf k'
-  pub upper : upperOf k' ≤ upperOf k
-
 pub record Advance (k : Bracket) (D : ℕ) (k' : Bracket) : Type 0 where
   pub held : Straddles k'
   pub closest : natAbs (k' .better .value) ≤ natAbs (k' .other .value)
@@ -167,6 +180,17 @@ record Cut (b c x q D : ℕ) : Type 0 where
   pub upper : max x q ≤ max b c
   pub narrower : gapOf x q < gapOf b c
   pub rest : D ≤ gapOf b c / 2 → gapOf x q + D ≤ gapOf b c
+
+-- whichever of the two is the better end
+cut-turned : {b c x q D : ℕ} → Cut b c x q D → Cut b c q x D
+cut-turned h =
+    record {
+      apart = λ f. h .apart (sym f);
+      lower = omega (arith, h .lower);
+      upper = omega (arith, h .upper);
+      narrower = omega (arith, h .narrower);
+      rest = λ k. omega (arith, h .rest k);
+    }
 
 module _ (k : Bracket) (D x : ℕ) (ahead : Ahead k D x) where
   cut-at : (q : ℕ) → (q ≡ k .better .point) ⊎ (q ≡ k .other .point) → Cut (k .better .point) (k .other .point) x q D
@@ -207,13 +231,14 @@ module _ (k : Bracket) (x : Sample) (D : ℕ) (held : Straddles k) (ahead : Ahea
           }
       go false e =
           let p = partner-is k x held in
-          let c = cut-at k D (x .point) ahead (partnerOf k x .point) (⊎-map (ap (λ (s : Sample). s .point)) (ap (λ (s : Sample). s .point)) (p .end)) in
+          let c = cut-turned
+          (cut-at k D (x .point) ahead (partnerOf k x .point) (⊎-map (ap (λ (s : Sample). s .point)) (ap (λ (s : Sample). s .point)) (p .end))) in
           record {
-            held = record { apart = λ f. c .apart (sym f); ends = inr refl; opposite = opposed-comm _ _ ∙ p .opposite };
+            held = record { apart = c .apart; ends = inr refl; opposite = opposed-comm _ _ ∙ p .opposite };
             closest = le-of-lt (leb-false _ _ e);
-            inside = record { lower = omega (arith, c .lower); upper = omega (arith, c .upper) };
-            narrower = omega (arith, c .narrower);
-            rest = λ h. omega (arith, c .rest h);
+            inside = record { lower = c .lower; upper = c .upper };
+            narrower = c .narrower;
+            rest = c .rest;
             counted = refl;
           }
 

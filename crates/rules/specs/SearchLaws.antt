@@ -14,18 +14,22 @@ use lib.Dec.{leb, eqb}
 use lib.ListN.{length}
 use lib.IntN.{ℤ, pos, natAbs}
 use Rattle.integers.specs.Digits.{Least}
-use Rattle.integers.specs.Signs.{never}
+use Rattle.integers.specs.SignsLaws.{never}
 use Rattle.rules.specs.declared.Opening.{Opening}
 use Rattle.rules.specs.declared.Method.{Method}
 use Rattle.rules.specs.declared.Sample.{Sample}
 use Rattle.rules.specs.declared.Bracket.{Bracket}
 use Rattle.rules.specs.declared.Progress.{Progress}
 use Rattle.rules.specs.declared.Report.{Report}
-use Rattle.rules.specs.Rules.{highest, largestTolerance, largestValue, slots, methodOf, firstOf, secondOf, toleranceAt, closer, pairOf, startOf, lowerOf, upperOf, widthOf, stoppedOf, partnerOf, thirdOf, streakOf, renewedOf, advanceOf, allowed, reachOf, offsetOf, nextOf}
-use Rattle.rules.specs.RulesLaws.{Ahead, next-ahead, offset-in, going-wide, Straddles, partner-is, Inside, Advance, advance-is, advance-taken, start-is, start-counts, Halves, bisection-halves, forced}
+use Rattle.rules.specs.Rules.{highest, largestTolerance, largestValue, slots, methodOf, firstOf, secondOf, toleranceAt, closer}
+use Rattle.rules.specs.Rules.{pairOf, startOf, lowerOf, upperOf, widthOf, stoppedOf, partnerOf, thirdOf, streakOf, renewedOf}
+use Rattle.rules.specs.Rules.{advanceOf, allowed, reachOf, offsetOf, nextOf}
+use Rattle.rules.specs.RulesLaws.{Ahead, next-ahead, offset-in, going-wide, Straddles, partner-is, Advance, advance-is, advance-taken}
+use Rattle.rules.specs.RulesLaws.{start-is, start-counts, Halves, bisection-halves, forced}
 use Rattle.rules.specs.Refusals.{openingRefusal, answerRefusal, tooLarge, sameSide, Accepted}
-use Rattle.rules.specs.RefusalsLaws.{Opened, opened, Passed, answer-passed, crossing-opposed, opposed-crossing}
-use Rattle.rules.specs.Search.{isRefused, beginOf, stoppedAt, sameSideAt, takenOf, enteredAt, answeredAt, offerOf, takeOf, progressOf, answersOf, bracketReport, reportAt, isRefusal, distanceOf, tOf, mostOf}
+use Rattle.rules.specs.RefusalsLaws.{Opened, opened, Passed, answer-passed, crossing-opposed}
+use Rattle.rules.specs.Search.{isRefused, beginOf, stoppedAt, sameSideAt, takenOf, enteredAt, answeredAt, offerOf, takeOf, progressOf}
+use Rattle.rules.specs.Search.{answersOf, bracketReport, reportAt, isRefusal, distanceOf, tOf, mostOf}
 use Rattle.rules.specs.BoundLaws.{turns-least, turns-few, Bound, bound-start, bound-below, bound-step}
 
 -- ---- what is known of a bracket that answers have led to
@@ -124,7 +128,13 @@ module _ (o : Opening) (k : Bracket) (v : ℤ) (op : Opened o) (sound : Sound o 
             (arith, advanced .counted, advance-taken k asked, streak-grows (widthOf k) (widthOf (advanceOf k asked)) (k .streak), sound .counted);
         bound =
             rw (advanced .counted, advance-taken k asked)
-            (bound-step _ _ _ _ _ _ (op .tolerance .least) (sound .bound) (going-wider o k going) (widthOf (advanceOf k asked)) (advanced .narrower) forced-halves);
+            (bound-step _ _ _ _ _ _
+            (op .tolerance .least)
+            (sound .bound)
+            (going-wider o k going)
+            (widthOf (advanceOf k asked))
+            (advanced .narrower)
+            forced-halves);
       }
 
 -- ---- the first bracket
@@ -242,24 +252,6 @@ pub progress-more : (o : Opening) (vs : List ℤ) (v : ℤ) → progressOf o (vs
 unfolding progressOf
 progress-more o vs v = foldl-append (takeOf o) (beginOf o) vs (v ∷ [])
 
--- a bracket comes after another only where the search goes on
-pub record Took (o : Opening) (k : Bracket) (v : ℤ) (k' : Bracket) : Type 0 where
-  pub going : stoppedOf o k ≡ false
-  pub bracket : k' ≡ advanceOf k (record { point = nextOf o k; value = v })
-
-bracketed : (a b : Bracket) → Progress.Bracketed a ≡ Progress.Bracketed b → a ≡ b
-bracketed a b e = cc
-
-pub took : (o : Opening) (k : Bracket) (v : ℤ) (k' : Bracket) → takeOf o (Progress.Bracketed k) v ≡ Progress.Bracketed k' → Took o k v k'
-unfolding takeOf offerOf
-took o k v k' = go (eqb (answerRefusal (stoppedOf o k) false (tooLarge v) false) 0) refl
-  where
-    go : (b : Bool) → eqb (answerRefusal (stoppedOf o k) false (tooLarge v) false) 0 ≡ b
-        → cond b (Progress.Bracketed (advanceOf k (record { point = nextOf o k; value = v }))) (Progress.Refused (answerRefusal (stoppedOf o k) false (tooLarge v) false) (k .taken)) ≡ Progress.Bracketed k'
-        → Took o k v k'
-    go true h e = record { going = answer-passed _ _ _ _ (eqb-true _ _ h) .going; bracket = sym (bracketed _ _ e) }
-    go false h e = let z : _≡_ {A = ℕ} 0 1 = cc in absurd (omega arith)
-
 -- ---- once refused, refused
 
 pub refused-stays : (o : Opening) (p : Progress) (vs : List ℤ) → isRefused p ≡ true → foldl (takeOf o) p vs ≡ p
@@ -341,10 +333,6 @@ module _ (o : Opening) (accepted : Accepted o) (vs : List ℤ) (k : Bracket) (at
   pub better-closest : natAbs (k .better .value) ≤ natAbs (k .other .value)
   better-closest = bracket-sound .closest
 
-  -- the two values are never both above or both below target
-  pub never-one-side : sameSide (k .better .value) (k .other .value) ≡ false
-  never-one-side = opposed-crossing _ _ (bracket-sound .held .opposite)
-
   -- s is at most 3 by M and 4 by R
   pub streak-allowed : k .streak ≤ allowed (methodOf o)
   streak-allowed = bracket-sound .bound .streak
@@ -366,13 +354,6 @@ module _ (o : Opening) (accepted : Accepted o) (vs : List ℤ) (k : Bracket) (at
     -- the next point lies strictly between the ends
     pub next-between : (lowerOf k < nextOf o k) × (nextOf o k < upperOf k)
     next-between = let a = ahead o k (pos 0) bracket-opened bracket-sound going in (a .above, a .below)
-
-  -- with one value more: the bracket lies within this one, and is narrower
-  pub nested : (v : ℤ) (k' : Bracket) → progressOf o (vs ++ (v ∷ [])) ≡ Progress.Bracketed k' → Inside k k' × (widthOf k' < widthOf k)
-  nested v k' e =
-      let t = took o k v k' (rw at at (sym (progress-more o vs v) ∙ e)) in
-      let a = advanced o k v bracket-opened bracket-sound (t .going) in
-      rw (t .bracket) (a .inside, a .narrower)
 
 -- ---- the quote
 

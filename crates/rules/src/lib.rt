@@ -9,6 +9,35 @@ pub const LARGEST_VALUE: u32 = 10000;
 
 pub const SLOTS: usize = 72;
 
+// The refusals by number, in document 01's words. An opening: method not 0, 1 or 2; an end out of range; ends equal; τ out of range.
+pub const UNKNOWN_METHOD: u32 = 1;
+
+pub const END_OUT_OF_RANGE: u32 = 2;
+
+pub const ENDS_EQUAL: u32 = 3;
+
+pub const TOLERANCE_OUT_OF_RANGE: u32 = 4;
+
+// An answer: the search had stopped; its point, where one is given, is not the one called for; value out of range; second answer, and
+// the first two values are both positive or both negative.
+pub const HAD_STOPPED: u32 = 5;
+
+pub const NOT_CALLED_FOR: u32 = 6;
+
+pub const VALUE_OUT_OF_RANGE: u32 = 7;
+
+pub const SAME_SIGN: u32 = 8;
+
+// A held search: count above 72.
+pub const COUNT_ABOVE: u32 = 9;
+
+// A text: longer than 4,096 bytes; a 73rd answer record; the form of a record is wrong, or the first is absent.
+pub const TOO_LONG: u32 = 10;
+
+pub const TOO_MANY: u32 = 11;
+
+pub const MALFORMED: u32 = 12;
+
 // An opening: the method, the first end x0, the second end x1 and the tolerance. A sheet may hold any of them out of range.
 #[repr(C)]
 pub struct Opening {

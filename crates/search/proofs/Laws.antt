@@ -7,7 +7,8 @@ use native.Mathlib.Omega.{arith}
 use borrow.Author.Tests.{eq-eqb}
 use lib.Count.{leadingZeros, leading-length}
 use lib.Pow.{pow-mono}
-use Rattle.integers.specs.Digits.{digits, digits-least}
+use Rattle.integers.specs.Digits.{digits}
+use Rattle.integers.specs.DigitsLaws.{digits-least}
 use Rattle.rules.specs.declared.Opening.{Opening}
 use Rattle.rules.specs.declared.Method.{Method}
 use Rattle.rules.specs.declared.Quote.{Quote}

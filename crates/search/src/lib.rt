@@ -41,18 +41,18 @@ fn turns(tolerance: u32, distance: u32) -> u32
 pub fn quote(o: Opening) -> Quote
     ensures { λ r. ⌜ r ≡ quoteOf o ⌝ }
 {
-    let n = walk::opening_refusal(o);
+    let n = refusals::opening_refusal(o);
     if n != 0 {
         return Quote::Refused {
             number: n,
             place: 0,
         };
     }
-    let distance = steps::gap(
-        interpolation::magnitude(o.first),
-        interpolation::magnitude(o.second),
+    let distance = brackets::gap(
+        comparisons::magnitude(o.first),
+        comparisons::magnitude(o.second),
     );
-    let t = turns(interpolation::magnitude(o.tolerance), distance);
+    let t = turns(comparisons::magnitude(o.tolerance), distance);
     Quote::Quoted {
         t,
         most: 2 + (allowed_streak(steps::method_of(o)) + 1) * t,

@@ -7,8 +7,8 @@ ghost use Rattle.rules.specs.Refusals.{openingRefusal};
 ghost use Rattle.rules.specs.Search.{answersOf, reportAt};
 ghost use Rattle.rules.specs.declared.Progress.the-variants.{Begun};
 ghost use Rattle.printing.specs.Printed.{recordOf, placed, placedLength};
-ghost use Rattle.sheet.specs.Sheet.{refusedAt, outcomeOf, sheetOf};
-ghost use Rattle.sheet.specs.SheetLaws.{keptBy, settledBy, Below};
+ghost use Rattle.outcomes.specs.Sheet.{refusedAt, outcomeOf, sheetOf};
+ghost use Rattle.outcomes.specs.SheetLaws.{keptBy, settledBy, Below};
 use forms::Entries;
 use forms::Form;
 use held::Entered;
@@ -22,16 +22,7 @@ fn refuse(number: u32, place: u32) -> Entered
 {
     Entered {
         report: Report::Refused { number, place },
-        search: Search {
-            opening: Opening {
-                method: 0,
-                first: 0,
-                second: 0,
-                tolerance: 0,
-            },
-            count: 0,
-            slots: [0; rules::SLOTS],
-        },
+        search: Search::blank(),
     }
 }
 
@@ -82,7 +73,7 @@ fn outcome(e: Entries) -> Entered
     requires { ⌜ e .count ≤ slots ⌝ }
     ensures { λ r. ⌜ r ≡ outcomeOf e ⌝ }
 {
-    let refused = walk::opening_refusal(e.opening);
+    let refused = refusals::opening_refusal(e.opening);
     if refused != 0 {
         return refuse(refused, 1);
     }

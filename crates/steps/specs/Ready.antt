@@ -1,6 +1,6 @@
--- What the inner functions ask: a bracket that answers have led to, and whose search goes on.
+-- What the functions of a step ask: a bracket that answers have led to, and whose search goes on.
 -- Assumes nothing.
-use Prim.Native.Nat.{_≤_, _<_}
+use Prim.Native.Nat.{_≤_}
 use mathlib.Core.Path.{_≡_}
 use mathlib.Core.Bool.{false}
 use Rattle.rules.specs.declared.Opening.{Opening}
@@ -9,11 +9,6 @@ use Rattle.interpolation.specs.Ranges.{widest, Measured}
 use Rattle.rules.specs.Rules.{stoppedOf, widthOf}
 use Rattle.rules.specs.RefusalsLaws.{Opened}
 use Rattle.rules.specs.SearchLaws.{Sound}
-
--- one more answer can be counted
-pub record Countable (k : Bracket) : Type 0 where
-  pub taken : k .taken < 4294967295
-  pub streak : k .streak < 4294967295
 
 -- its points and values are in the range of the estimates
 pub record Surveyed (k : Bracket) : Type 0 where

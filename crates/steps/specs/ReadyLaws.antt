@@ -5,9 +5,8 @@ use Rattle.interpolation.specs.Ranges.{Measured}
 use Rattle.rules.specs.declared.Opening.{Opening}
 use Rattle.rules.specs.declared.Sample.{Sample}
 use Rattle.rules.specs.declared.Bracket.{Bracket}
-use Rattle.rules.specs.RefusalsLaws.{Opened}
-use Rattle.rules.specs.SearchLaws.{Limited, Sound, most-slots}
-use Rattle.steps.specs.Ready.{Countable, Surveyed}
+use Rattle.rules.specs.SearchLaws.{Limited, Sound}
+use Rattle.steps.specs.Ready.{Surveyed}
 
 measured : {s : Sample} → Limited s → Measured s
 measured l = record { near = omega (arith, l .point); small = record { abs-le = l .value } }
@@ -20,12 +19,4 @@ surveyed s =
       previous = measured (l .previous);
       third = measured (l .third);
       width = omega (arith, l .better .point, l .other .point);
-    }
-
--- and one more answer can be counted
-pub countable : {o : Opening} {k : Bracket} → Opened o → Sound o k → Countable k
-countable {o} {k} op s =
-    record {
-      taken = omega (arith, s .bound .most, most-slots o op);
-      streak = omega (arith, s .counted, s .bound .most, most-slots o op);
     }

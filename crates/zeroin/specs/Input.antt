@@ -5,7 +5,7 @@ use mathlib.Core.Path.{_≡_}
 use mathlib.Core.List.{List, _++_}
 use lib.ListN.{length, take}
 use Rattle.printing.specs.Printed.{recordOf, placed, placedLength}
-use Rattle.sheet.specs.Sheet.{sheetOf}
+use Rattle.outcomes.specs.Sheet.{sheetOf}
 use Rattle.zeroin.specs.declared.Filled.{Filled}
 
 -- an input that ended did so before the buffer was full

@@ -12,7 +12,7 @@ use Rattle.forms.specs.declared.Entries.{Entries}
 use Rattle.forms.specs.Entries.{longestText, wholeText, tooLong, refused, entriesOf}
 use Rattle.printing.specs.Printed.{recordOf, placed, placedLength}
 use Rattle.printing.specs.PrintedLaws.{written-within}
-use Rattle.sheet.specs.Sheet.{sheetOf}
+use Rattle.outcomes.specs.Sheet.{sheetOf}
 use Rattle.zeroin.specs.declared.Filled.{Filled}
 use Rattle.zeroin.specs.Input.{Record, Answers}
 

@@ -13,7 +13,8 @@ use Rattle.rules.specs.Search.{isRefused, answersOf, reportAt, isRefusal}
 use Rattle.rules.specs.SearchLaws.{refusal-is}
 use Rattle.held.specs.declared.Search.{Search}
 use Rattle.held.specs.Held.{standingOf, triedOf}
-use Rattle.held.specs.HeldLaws.{searchOf, Free, free-slot, verdict-refused, verdict-entered}
+use Rattle.held.specs.Judged.{searchOf}
+use Rattle.held.specs.HeldLaws.{Free, free-slot, verdict-refused, verdict-entered}
 use Rattle.held.proofs.judge_parts.Statement.{statement}
 use Rattle.held.proofs.judge_parts.Tie as tie
 
@@ -27,11 +28,13 @@ search-of s = searchOf (s .args .opening) (s .args .count) (s .args .slots .now)
 long : (c : tie.After-told) → length (start-of c .args .slots .now) ≡ slots
 long c = search needs
 
-tried : (c : tie.After-told) → c .told .result ≡ reportAt (search-of (start-of c) .opening) (triedOf (search-of (start-of c)) (start-of c .args .point) (start-of c .args .value))
+tried : (c : tie.After-told) → c .told .result ≡ reportAt (search-of (start-of c) .opening) (triedOf (search-of (start-of c))
+    (start-of c .args .point) (start-of c .args .value))
 unfolding standingOf answersOf
 tried c = let s = start-of c in rw (read (s .fits .point), read (s .fits .value)) at (c .told .ensures)
 
-refused : (c : tie.After-is-refusal) → isRefused (triedOf (search-of (start-of (c .before))) (start-of (c .before) .args .point) (start-of (c .before) .args .value)) ≡ c .is-refusal .result
+refused : (c : tie.After-is-refusal) → isRefused (triedOf (search-of (start-of (c .before))) (start-of (c .before) .args .point)
+    (start-of (c .before) .args .value)) ≡ c .is-refusal .result
 refused c = sym (c .is-refusal .ensures ∙ ap isRefusal (tried (c .before)) ∙ refusal-is _ _)
 
 free : (c : tie.Else1) → Free (search-of (start-of (c .before .before)))
@@ -67,7 +70,8 @@ add-t19 c = omega (arith, free c .free)
 returns-2 : tie.Need-returns-2
 returns-2 c =
     let s = start-of (c .before .before) in
-    rw (read (s .fits .value)) (verdict-entered (search-of s) (s .args .point) (s .args .value) _ (tried (c .before .before)) (refused (c .before) ∙ c .if1 .left))
+    rw (read (s .fits .value)) (verdict-entered (search-of s) (s .args .point) (s .args .value) _ (tried (c .before .before))
+    (refused (c .before) ∙ c .if1 .left))
 
 pub judge-parts-spec : {M : Type 1} → statement M
 judge-parts-spec =

@@ -9,12 +9,17 @@ use lib.Seq.{length-take-le}
 use Rattle.rules.specs.declared.Progress.{Progress}
 use Rattle.rules.specs.Search.{reportAt}
 use Rattle.rules.specs.SearchLaws.{answers-stay}
+use Rattle.held.specs.Held.{standingOf}
 use Rattle.held.proofs.told.Statement.{statement}
 use Rattle.held.proofs.told.Tie as tie
 
 returns : tie.Need-returns
-unfolding reportAt
-returns c = let s = c .before .args in simp (lt-ltb _ _ (c .if1 .taken), answers-stay (s .opening) (Progress.Refused 9 0) (s .points .now) (s .values .now) refl)
+unfolding reportAt standingOf
+returns c = let s = c .before .args in simp (
+  lt-ltb _ _ (c .if1 .taken),
+  answers-stay (s .opening) (Progress.Refused 9 0) (s .points .now)
+      (s .values .now) refl,
+)
 
 slice-aggregate-follow : tie.Need-slice-aggregate-follow
 slice-aggregate-follow c =
@@ -25,6 +30,7 @@ follow-requires : tie.Need-follow-requires
 follow-requires c κs = search needs
 
 returns-2 : tie.Need-returns-2
+unfolding standingOf
 returns-2 c = simp (le-ltb _ _ (c .before .before .if1 .left)) (c .follow .ensures)
 
 pub told-spec : {M : Type 1} → statement M

@@ -12,7 +12,7 @@ use lib.IntN.{ℤ, pos, negsuc, natAbs, _*ℤ_}
 use lib.Signed.{ltZ, leZ, nonNeg, quotZ, _<ℤ_}
 use mir.Syntax.{w64}
 use borrow.Author.Tests.{leb-true}
-use Rattle.integers.specs.Signs.{never}
+use Rattle.integers.specs.SignsLaws.{never}
 use Rattle.integers.specs.Bounds.{bits-positive}
 use Rattle.integers.specs.Formulas.{Formula, whole, nat, literal, mul, quot, value, asks, reads, tests}
 use Rattle.rules.specs.Rules.{forwardOf}

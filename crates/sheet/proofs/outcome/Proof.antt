@@ -10,8 +10,8 @@ use Rattle.rules.specs.declared.Progress.{Progress}
 use Rattle.rules.specs.Rules.{slots}
 use Rattle.rules.specs.Search.{reportAt}
 use Rattle.rules.specs.SearchLaws.{CountedAt}
-use Rattle.sheet.specs.Sheet.{leadsTo}
-use Rattle.sheet.specs.SheetLaws.{settledBy, settled-is, Below, below, answers-counted, outcome-accepted, outcome-refused}
+use Rattle.outcomes.specs.Sheet.{leadsTo}
+use Rattle.outcomes.specs.SheetLaws.{settledBy, settled-is, Below, below, answers-counted, outcome-accepted, outcome-refused}
 use borrow.Author.Needs.{needs}
 use Rattle.sheet.proofs.outcome.Statement.{statement}
 use Rattle.sheet.proofs.outcome.Tie as tie
@@ -30,8 +30,9 @@ values-are s = length-take-le (s .args .t1 .count) (s .args .t1 .values) (omega 
 
 counted : (s : tie.Start) → CountedAt (s .args .t1 .count) (leadsTo (s .args .t1))
 counted s =
-    subst (λ (n : ℕ). CountedAt n (leadsTo (s .args .t1))) (zero-add _ ∙ points-are s)
-    (answers-counted (s .args .t1 .opening) 0 Progress.Begun (take (s .args .t1 .count) (s .args .t1 .points)) (take (s .args .t1 .count) (s .args .t1 .values)) (points-are s ∙ sym (values-are s)) refl)
+    let e = s .args .t1 in
+    subst (λ (n : ℕ). CountedAt n (leadsTo e)) (zero-add _ ∙ points-are s)
+    (answers-counted (e .opening) 0 Progress.Begun (take (e .count) (e .points)) (take (e .count) (e .values)) (points-are s ∙ sym (values-are s)) refl)
 
 abbrev start-of : tie.After-told → tie.Start
 start-of c = c .before .before .before .before .before .before .before .before .before .before

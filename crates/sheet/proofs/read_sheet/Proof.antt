@@ -4,7 +4,7 @@ use Prim.Native.Nat.{_≤_}
 use mathlib.Core.Path.{sym, subst, _∙_}
 use Rattle.rules.specs.Rules.{slots}
 use Rattle.forms.specs.declared.Entries.{Entries}
-use Rattle.sheet.specs.SheetLaws.{entries-few, sheet-refused, sheet-read}
+use Rattle.outcomes.specs.SheetLaws.{entries-few, sheet-refused, sheet-read}
 use borrow.Author.Needs.{needs}
 use Rattle.sheet.proofs.read_sheet.Statement.{statement}
 use Rattle.sheet.proofs.read_sheet.Tie as tie

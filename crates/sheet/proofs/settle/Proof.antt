@@ -2,7 +2,7 @@
 -- Assumes nothing.
 use mathlib.Core.Path.{subst, _∙_}
 use native.Mathlib.Omega.{arith}
-use Rattle.sheet.specs.SheetLaws.{Below}
+use Rattle.outcomes.specs.SheetLaws.{Below}
 use borrow.Author.Needs.{needs}
 use Rattle.sheet.proofs.settle.Statement.{statement}
 use Rattle.sheet.proofs.settle.Tie as tie

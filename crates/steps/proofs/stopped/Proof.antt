@@ -4,10 +4,6 @@ use Rattle.rules.specs.Rules.{stoppedOf}
 use borrow.Author.Needs.{needs}
 use Rattle.steps.proofs.stopped.Statement.{statement}
 use Rattle.steps.proofs.stopped.Tie as tie
-use Rattle.steps.proofs.stopped.Reads as reads
-use Rattle.steps.proofs.stopped.Lts as lts
-use Rattle.steps.proofs.tolerance_at.Reads as tolerance-at-reads
-use Rattle.steps.proofs.width.Reads as width-reads
 
 width-requires : tie.Need-width-requires
 width-requires c κs = search needs

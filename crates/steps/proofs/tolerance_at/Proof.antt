@@ -9,9 +9,6 @@ use Rattle.rules.specs.Rules.{toleranceAt}
 use borrow.Author.Needs.{needs}
 use Rattle.steps.proofs.tolerance_at.Statement.{statement}
 use Rattle.steps.proofs.tolerance_at.Tie as tie
-use Rattle.steps.proofs.tolerance_at.Reads as reads
-use Rattle.steps.proofs.tolerance_at.Lts as lts
-use Rattle.interpolation.proofs.magnitude.Reads as magnitude-reads
 
 magnitude-requires : tie.Need-magnitude-requires
 magnitude-requires c κs = search needs

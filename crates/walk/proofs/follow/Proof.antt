@@ -10,8 +10,8 @@ use Rattle.integers.specs.Bounds.{read}
 use Rattle.rules.specs.declared.Progress.{Progress}
 use Rattle.rules.specs.declared.Report.{Report}
 use Rattle.rules.specs.Search.{reportAt}
-use Rattle.walk.specs.Answers.{Begins}
-use Rattle.walk.specs.AnswersLaws.{told-refused, told-end}
+use Rattle.answers.specs.Answers.{Begins}
+use Rattle.answers.specs.AnswersLaws.{told-refused, told-end}
 use Rattle.walk.proofs.follow.Statement.{statement}
 use Rattle.walk.proofs.follow.Tie as tie
 

@@ -15,9 +15,9 @@ use Rattle.rules.specs.declared.Bracket.{Bracket}
 use Rattle.rules.specs.declared.Progress.{Progress}
 use Rattle.rules.specs.Rules.{stoppedOf, nextOf, advanceOf}
 use Rattle.rules.specs.Refusals.{answerRefusal, tooLarge}
-use Rattle.steps.specs.ReadyLaws.{countable}
-use Rattle.walk.specs.Answers.{otherThan, otherFrom, Led}
-use Rattle.walk.specs.AnswersLaws.{other-going, led-not, led-entered, told-refused, told-late, told-stop, told-next}
+use Rattle.brackets.specs.CountableLaws.{countable}
+use Rattle.answers.specs.Answers.{otherThan, otherFrom, Led}
+use Rattle.answers.specs.AnswersLaws.{other-going, led-not, led-entered, told-refused, told-late, told-stop, told-next}
 use Rattle.walk.proofs.walk_on.Statement.{statement}
 use Rattle.walk.proofs.walk_on.Tie as tie
 

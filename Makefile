@@ -1,0 +1,27 @@
+# Thin targets over the toolchain, for those who type make.
+#   make                      proves and builds the archive for C and the programs, under target/
+#   make test                 the gate: everything is proved from nothing and tested
+#   make install PREFIX=DIR   installs the header, the archive, its pkg-config file and the programs that `make` built; DESTDIR is put before
+# The archive and the programs are for x86-64 Linux.
+PREFIX = /usr/local
+DESTDIR =
+PROGRAMS = zeroin
+VERSION = $(shell sed -n 's/^.define BUSDEKKER_VERSION //p' include/busdekker.h)
+ARCHIVE = target/staticlib/libbusdekker.a
+
+.PHONY: all test install
+
+all:
+	rt staticlib busdekker
+	rt check $(PROGRAMS)
+
+test:
+	bash .ci/run
+
+install:
+	@for file in $(ARCHIVE) $(PROGRAMS:%=target/bin/%); do test -f $$file || { echo "make install: $$file is not there: run make first" >&2; exit 1; }; done
+	mkdir -p $(DESTDIR)$(PREFIX)/include $(DESTDIR)$(PREFIX)/lib/pkgconfig $(DESTDIR)$(PREFIX)/bin
+	install -m 644 include/busdekker.h $(DESTDIR)$(PREFIX)/include/
+	install -m 644 $(ARCHIVE) $(DESTDIR)$(PREFIX)/lib/
+	sed -e 's|@PREFIX@|$(PREFIX)|' -e 's|@VERSION@|$(VERSION)|' busdekker.pc.in >$(DESTDIR)$(PREFIX)/lib/pkgconfig/busdekker.pc
+	install -m 755 $(PROGRAMS:%=target/bin/%) $(DESTDIR)$(PREFIX)/bin/

@@ -1,0 +1,21 @@
+-- `brackets::start` meets its contract: each arm is the definition's.
+-- Assumes nothing.
+use mathlib.Core.Path.{sym, _∙_}
+use Rattle.rules.specs.Rules.{startOf}
+use borrow.Author.Needs.{needs}
+use Rattle.brackets.proofs.start.Statement.{statement}
+use Rattle.brackets.proofs.start.Tie as tie
+
+closer-requires : tie.Need-closer-requires
+closer-requires c κs = search needs
+
+returns : tie.Need-returns
+unfolding startOf
+returns c = simp (sym (c .before .closer .ensures) ∙ c .if1 .taken)
+
+returns-2 : tie.Need-returns-2
+unfolding startOf
+returns-2 c = simp (sym (c .before .closer .ensures) ∙ c .if1 .left)
+
+pub start-spec : {M : Type 1} → statement M
+start-spec = tie.close (tie.spec closer-requires returns returns-2)

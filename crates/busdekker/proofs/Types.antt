@@ -1,0 +1,41 @@
+-- The types of this interface as its proofs by hand want them: a report as plain numbers, beside a search, and what is written.
+-- Assumes nothing.
+use denote.Struct.Laws as SL
+use Rattle.rules.proofs.Row as N
+use Rattle.rules.proofs.Row.Laws as N′
+use Rattle.busdekker.proofs.Answered as E
+use Rattle.busdekker.proofs.Answered.Laws as E′
+use Rattle.busdekker.proofs.Written as W
+use Rattle.busdekker.proofs.Written.Laws as W′
+use Rattle.lent.proofs.Walk.{Plain, struct}
+use Rattle.lent.proofs.Whole.{Beside, BesideLaws}
+use Rattle.lent.proofs.Slot.{Verdicts, VerdictLaws}
+
+abbrev pub plain-row : Plain
+plain-row = struct N.the-type N′.the-laws N′.the-plain
+
+abbrev pub beside : Beside plain-row
+beside = record { type = E.the-row; name = E.the-type .name; told = λ e. e .report; left = λ e. e .search }
+
+abbrev pub beside-laws : BesideLaws beside
+beside-laws =
+    record {
+      tells = SL.tells E.the-type E′.the-laws;
+      lawful = SL.lawful E.the-type E′.the-laws;
+      is-told = λ e vs is. SL.owed E.the-type E′.the-laws e vs is .0;
+      is-left = λ e vs is. SL.owed E.the-type E′.the-laws e vs is .1 .0;
+    }
+
+abbrev pub written : Verdicts plain-row
+written = record { type = W.the-row; name = W.the-type .name; told = λ r. r .report; count = λ r. r .count; at = λ r. r .at; value = λ r. r .value }
+
+abbrev pub written-laws : VerdictLaws written
+written-laws =
+    record {
+      tells = SL.tells W.the-type W′.the-laws;
+      lawful = SL.lawful W.the-type W′.the-laws;
+      is-told = λ r vs is. SL.owed W.the-type W′.the-laws r vs is .0;
+      is-count = λ r vs is. SL.owed W.the-type W′.the-laws r vs is .1 .0 .1;
+      is-at = λ r vs is. SL.owed W.the-type W′.the-laws r vs is .1 .1 .0 .1;
+      is-value = λ r vs is. SL.owed W.the-type W′.the-laws r vs is .1 .1 .1 .0;
+    }

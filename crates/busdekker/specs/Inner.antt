@@ -1,0 +1,9 @@
+-- What the inner steps tell. No exported function's contract cites this.
+-- Assumes nothing.
+use Rattle.rules.specs.Rows.{rowOf}
+use Rattle.held.specs.declared.Verdict.{Verdict}
+use Rattle.busdekker.specs.declared.Written.{Written}
+
+-- what an answer does to a search, with the report as plain numbers
+abbrev pub writtenOf : Verdict → Written
+writtenOf v = record { report = rowOf (v .report); count = v .count; at = v .at; value = v .value }

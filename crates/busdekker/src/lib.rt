@@ -1,0 +1,184 @@
+// The interface for a dryer's controller, exported for C: see include/busdekker.h. Nothing is asked of the caller: what is out of range is
+// refused, and a refusal leaves what was lent as it was.
+ghost use mathlib.Core.Path.{_≡_};
+ghost use Rattle.rules.specs.Rows.{rowOf};
+ghost use Rattle.rules.specs.Search.{reportOf, quoteOf};
+ghost use Rattle.held.specs.Held.{reopenOf, heldReport, enterOf};
+ghost use Rattle.held.specs.Judged.{verdictOf};
+ghost use Rattle.outcomes.specs.Sheet.{sheetOf};
+ghost use Rattle.busdekker.specs.Interface.{version, quotationOf, answeredOf};
+ghost use Rattle.busdekker.specs.Inner.{writtenOf};
+use held::Entered;
+use held::Search;
+use rules::Opening;
+use rules::Quote;
+use rules::Row;
+
+// A quote as plain numbers: `kind` says whether it is a quote or a refusal, and a number that its kind has not is 0.
+#[repr(C)]
+pub struct Quotation {
+    pub kind: u32,
+    pub t: u32,
+    pub most: u32,
+    pub number: u32,
+    pub place: u32,
+}
+
+// A report as plain numbers, and beside it the search as it then is.
+#[repr(C)]
+pub struct Answered {
+    pub report: Row,
+    pub search: Search,
+}
+
+// What an answer does to a search, with the report as plain numbers: the count that the search then has, and the value of one slot.
+pub struct Written {
+    pub report: Row,
+    pub count: u32,
+    pub at: usize,
+    pub value: i32,
+}
+
+// ---- by value
+
+// A quote as plain numbers.
+fn quote_row(quote: Quote) -> Quotation
+    ensures { λ r. ⌜ r ≡ quotationOf quote ⌝ }
+{
+    match quote {
+        Quote::Quoted { t, most } => Quotation {
+            kind: 4,
+            t,
+            most,
+            number: 0,
+            place: 0,
+        },
+        Quote::Refused { number, place } => Quotation {
+            kind: 3,
+            t: 0,
+            most: 0,
+            number,
+            place,
+        },
+    }
+}
+
+// A fresh search of an opening in a search's place.
+fn step_open(search: Search, opening: Opening) -> Answered
+    ensures { λ r. ⌜ r ≡ answeredOf (reopenOf search opening) ⌝ }
+{
+    let e = search.reopen(opening);
+    let report = e.report;
+    let next = e.search;
+    Answered {
+        report: printing::row_of(report),
+        search: next,
+    }
+}
+
+// What an answer does to a search.
+fn step_enter(search: Search, point: i32, value: i32) -> Written
+    ensures { λ r. ⌜ r ≡ writtenOf (verdictOf search point value) ⌝ }
+{
+    let v = held::judge(search, point, value);
+    let report = v.report;
+    Written {
+        report: printing::row_of(report),
+        count: v.count,
+        at: v.at,
+        value: v.value,
+    }
+}
+
+// The report of a search.
+fn step_ask(search: Search) -> Row
+    ensures { λ r. ⌜ r ≡ rowOf (heldReport search) ⌝ }
+{
+    printing::row_of(search.report())
+}
+
+// ---- exported
+
+// The version of this interface.
+#[no_mangle]
+pub extern "C" fn busdekker_version() -> u32
+    ensures { λ r. ⌜ r ≡ version ⌝ }
+{
+    1
+}
+
+// t and the most answers that an opening may need.
+#[no_mangle]
+pub extern "C" fn busdekker_quote(opening: Opening) -> Quotation
+    ensures { λ r. ⌜ r ≡ quotationOf (quoteOf opening) ⌝ }
+{
+    quote_row(search::quote(opening))
+}
+
+// Makes the host's search a fresh one of the opening, or refuses that.
+#[no_mangle]
+pub extern "C" fn busdekker_open(search: &mut Search, opening: Opening) -> Row
+    ensures { λ r. ⌜ (r ≡ rowOf ((reopenOf (now (search .entry)) opening) .report))
+        × (now (search .exit) ≡ (reopenOf (now (search .entry)) opening) .search) ⌝ }
+{
+    let e = step_open(*search, opening);
+    *search = e.search;
+    e.report
+}
+
+// Enters an answer into the host's search, or refuses it.
+#[no_mangle]
+pub extern "C" fn busdekker_enter(search: &mut Search, point: i32, value: i32) -> Row
+    ensures { λ r. ⌜ (r ≡ rowOf ((enterOf (now (search .entry)) point value) .report))
+        × (now (search .exit) ≡ (enterOf (now (search .entry)) point value) .search) ⌝ }
+{
+    let w = step_enter(*search, point, value);
+    let at = w.at;
+    (*search).slots[at] = w.value;
+    (*search).count = w.count;
+    w.report
+}
+
+// Enters an answer into a search that is passed by value: the report, and the search as it then is.
+#[no_mangle]
+pub extern "C" fn busdekker_entered(held: Search, point: i32, value: i32) -> Answered
+    ensures { λ r. ⌜ r ≡ answeredOf (enterOf held point value) ⌝ }
+{
+    let v = held::judge_parts(held.opening, held.count, &held.slots, point, value);
+    let report = v.report;
+    let at = v.at;
+    let kept = v.value;
+    let mut search = held;
+    search.slots[at] = kept;
+    search.count = v.count;
+    Answered {
+        report: printing::row_of(report),
+        search,
+    }
+}
+
+// The report of the host's search as it stands.
+#[no_mangle]
+pub extern "C" fn busdekker_ask(search: &Search) -> Row
+    ensures { λ r. ⌜ r ≡ rowOf (heldReport (now (search .entry))) ⌝ }
+{
+    step_ask(*search)
+}
+
+// The report on an opening and a list of values, of any length.
+#[no_mangle]
+pub extern "C" fn busdekker_values(opening: Opening, values: &[i32]) -> Row
+    ensures { λ r. ⌜ r ≡ rowOf (reportOf opening (now (values .entry))) ⌝ }
+{
+    printing::row_of(search::report_on(opening, values))
+}
+
+// The outcome of a trial sheet; the place of a refusal is a record.
+#[no_mangle]
+pub extern "C" fn busdekker_sheet(text: &[u8]) -> Row
+    ensures { λ r. ⌜ r ≡ rowOf (sheetOf (now (text .entry)) .report) ⌝ }
+{
+    let outcome = sheet::read_sheet(text);
+    let told = outcome.report;
+    printing::row_of(told)
+}

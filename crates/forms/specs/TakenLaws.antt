@@ -1,0 +1,210 @@
+-- What is read is a sheet: the other way round of ReadingLaws. Every text that is read is a list of rows, a row a list of fields, and
+-- a field the bytes of a number: four fields to the opening, two to each answer, and no more answers than slots.
+-- Assumes nothing.
+use Prim.Native.Nat.{ℕ, zero, suc, _+_, _≤_}
+use mathlib.Core.Path.{_≡_, refl, sym, ap, ap₂, subst, _∙_}
+use mathlib.Core.Bool.{Bool, true, false, cond}
+use mathlib.Core.List.{List, [], _∷_, _++_, map, flatten}
+use native.Mathlib.Omega.{arith}
+use lib.ListN.{length}
+use lib.IntN.{ℤ}
+use lib.Dec.{eqb, ltb}
+use borrow.Author.Tests.{eqb-true, eqb-false}
+use Rattle.rules.specs.declared.Opening.{Opening}
+use Rattle.rules.specs.Rules.{slots}
+use Rattle.forms.specs.declared.Number.{Number}
+use Rattle.forms.specs.declared.AnswerRecord.{AnswerRecord}
+use Rattle.forms.specs.declared.OpeningRecord.{OpeningRecord}
+use Rattle.forms.specs.declared.Form.{Form}
+use Rattle.forms.specs.declared.Entries.{Entries}
+use Rattle.forms.specs.Text.{recordsOf, wellEnded, bodyOf, fieldsOf}
+use Rattle.forms.specs.Number.{numberOf}
+use Rattle.forms.specs.Entries.{longestText, tooLong, tooMany, malformed, wholeText, openingPlace, answerPlace}
+use Rattle.forms.specs.Entries.{numbersOf, noneMalformed, areNumbers, integerOf, integerAt, answerOf, openingWith, openingOf}
+use Rattle.forms.specs.Entries.{refused, opened, entered, answersFrom, recordsRead, entriesOf}
+use Rattle.forms.specs.TextLaws.{ended, textOf, records-whole, ended-whole}
+use Rattle.forms.specs.FieldLaws.{joined, fields-whole}
+use Rattle.forms.specs.NumberLaws.{both}
+use Rattle.forms.specs.ReadingLaws.{Spells, openingNumbers, SpellsAnswers}
+
+-- ---- a record that is read is a row
+
+pub record RecordText (r : List ℕ) (zs : List ℤ) : Type 0 where
+  pub fields : List (List ℕ)
+  pub spelled : Spells fields zs
+  pub whole : ended (joined fields) ≡ r
+
+-- fields none of which is malformed are spellings of their numbers
+fields-spelled : (fs : List (List ℕ)) → noneMalformed (map numberOf fs) ≡ true → Spells fs (map integerOf (map numberOf fs))
+fields-spelled [] e = Spells.none
+fields-spelled (f ∷ fs) e = go (numberOf f) refl e (fields-spelled fs)
+  where
+    go : (n : Number) → numberOf f ≡ n → noneMalformed (n ∷ map numberOf fs) ≡ true
+        → (noneMalformed (map numberOf fs) ≡ true → Spells fs (map integerOf (map numberOf fs)))
+        → Spells (f ∷ fs) (integerOf n ∷ map integerOf (map numberOf fs))
+    go (Number.Is z) d h more = Spells.more d (more h)
+    go Number.Malformed d h more = let n : _≡_ {A = ℕ} 0 1 = cc in absurd (omega arith)
+
+-- a record of k numbers that is not malformed: what is made of its numbers is what it is read as
+record Made {A : Type 0} (k : ℕ) (r : List ℕ) (make : List Number → A) (a : A) : Type 0 where
+  text : RecordText r (map integerOf (numbersOf (bodyOf r)))
+  count : length (numbersOf (bodyOf r)) ≡ k
+  made : make (numbersOf (bodyOf r)) ≡ a
+
+record-read : {A : Type 0} (k : ℕ) (r : List ℕ) (make : List Number → A) (bad a : A) → (bad ≡ a → ⊥)
+    → cond (wellEnded r) (cond (areNumbers k (numbersOf (bodyOf r))) (make (numbersOf (bodyOf r))) bad) bad ≡ a → Made k r make a
+record-read k r make bad a fine = go (wellEnded r) refl (areNumbers k (numbersOf (bodyOf r))) refl
+  where
+    go : (w : Bool) → wellEnded r ≡ w → (n : Bool) → areNumbers k (numbersOf (bodyOf r)) ≡ n
+        → cond w (cond n (make (numbersOf (bodyOf r))) bad) bad ≡ a → Made k r make a
+    go true w true n e =
+        let h = both (eqb (length (numbersOf (bodyOf r))) k) _ n in
+        record {
+          text =
+              record {
+                fields = fieldsOf (bodyOf r);
+                spelled = fields-spelled (fieldsOf (bodyOf r)) (h .1);
+                whole = ap ended (fields-whole (bodyOf r)) ∙ ended-whole r w;
+              };
+          count = eqb-true _ k (h .0);
+          made = e;
+        }
+    go true w false n e = absurd (fine e)
+    go false w n f e = absurd (fine e)
+
+-- the integers at k places, from place i on
+abbrev integersFrom : ℕ → ℕ → List Number → List ℤ
+integersFrom i zero ns = []
+integersFrom i (suc k) ns = integerAt ns i ∷ integersFrom (suc i) k ns
+
+integers-later : (n : Number) (ns : List Number) (i k : ℕ) → integersFrom (suc i) k (n ∷ ns) ≡ integersFrom i k ns
+integers-later n ns i zero = refl
+integers-later n ns i (suc k) = ap (λ (zs : List ℤ). integerAt ns i ∷ zs) (integers-later n ns (suc i) k)
+
+all-integers : (k : ℕ) (ns : List Number) → length ns ≡ k → map integerOf ns ≡ integersFrom 0 k ns
+all-integers zero [] e = refl
+all-integers zero (n ∷ ns) e = absurd (omega arith)
+all-integers (suc k) [] e = absurd (omega arith)
+all-integers (suc k) (n ∷ ns) e =
+    ap (λ (zs : List ℤ). integerOf n ∷ zs) (all-integers k ns (omega arith) ∙ sym (integers-later n ns 0 k))
+
+answer-record : (r : List ℕ) (point value : ℤ) → answerOf r ≡ AnswerRecord.Answer point value → RecordText r (point ∷ value ∷ [])
+unfolding answerOf
+answer-record r point value e =
+    let ns = numbersOf (bodyOf r) in
+    let d = record-read 2 r (λ ns. AnswerRecord.Answer (integerAt ns 0) (integerAt ns 1)) AnswerRecord.Malformed (AnswerRecord.Answer point value)
+    (λ b. let n : _≡_ {A = ℕ} 0 1 = cc in omega arith) e in
+    let m : AnswerRecord.Answer (integerAt ns 0) (integerAt ns 1) ≡ AnswerRecord.Answer point value = d .made in
+    let z : integerAt ns 0 ∷ integerAt ns 1 ∷ [] ≡ point ∷ value ∷ [] = cc in
+    subst (RecordText r) (all-integers 2 ns (d .count) ∙ z) (d .text)
+
+opening-record : (r : List ℕ) (o : Opening) → openingOf r ≡ OpeningRecord.Opened o → RecordText r (openingNumbers o)
+unfolding openingOf
+opening-record r o e =
+    let ns = numbersOf (bodyOf r) in
+    let d = record-read 4 r (λ ns. OpeningRecord.Opened (openingWith ns)) OpeningRecord.Malformed (OpeningRecord.Opened o)
+    (λ b. let n : _≡_ {A = ℕ} 0 1 = cc in omega arith) e in
+    let m : OpeningRecord.Opened (openingWith ns) ≡ OpeningRecord.Opened o = d .made in
+    let z : openingWith ns ≡ o = cc in
+    subst (RecordText r) (all-integers 4 ns (d .count) ∙ ap openingNumbers z) (d .text)
+
+-- ---- the answers' records are rows
+
+pub record RecordsText (rs : List (List ℕ)) : Type 0 where
+  pub rows : List (List (List ℕ))
+  pub points : List ℤ
+  pub values : List ℤ
+  pub spelled : SpellsAnswers rows points values
+  pub whole : textOf (map joined rows) ≡ flatten rs
+  pub count : length rows ≡ length rs
+
+more-rows : (r : List ℕ) (rs : List (List ℕ)) (point value : ℤ) → RecordText r (point ∷ value ∷ []) → RecordsText rs → RecordsText (r ∷ rs)
+unfolding flatten
+more-rows r rs point value a k =
+    record {
+      rows = a .fields ∷ k .rows;
+      points = point ∷ k .points;
+      values = value ∷ k .values;
+      spelled = SpellsAnswers.one-answer (a .spelled) (k .spelled);
+      whole = ap₂ (λ (s t : List ℕ). s ++ t) (a .whole) (k .whole);
+      count = ap suc (k .count);
+    }
+
+-- after the answers of e
+pub record AnswersTaken (e : Entries) (rs : List (List ℕ)) : Type 0 where
+  pub rows : RecordsText rs
+  pub few : e .count + length rs ≤ slots
+
+no-refusal : (n k : ℕ) {X : Type 0} → refused n k .form ≡ Form.Read → X
+unfolding refused
+no-refusal n k e = let z : _≡_ {A = ℕ} 0 1 = cc in absurd (omega arith)
+
+answers-taken : (e : Entries) (rs : List (List ℕ)) → e .count ≤ slots → answersFrom e rs .form ≡ Form.Read → AnswersTaken e rs
+unfolding answersFrom entered flatten
+answers-taken e [] h f =
+    record {
+      rows = record { rows = []; points = []; values = []; spelled = SpellsAnswers.no-answer; whole = refl; count = refl };
+      few = omega arith;
+    }
+answers-taken e (r ∷ rs) h f = go (eqb (e .count) slots) refl (answerOf r) refl (λ x v. answers-taken (entered e x v) rs) f
+  where
+    go : (b : Bool) → eqb (e .count) slots ≡ b → (a : AnswerRecord) → answerOf r ≡ a
+        → ((x v : ℤ) → e .count + 1 ≤ slots → answersFrom (entered e x v) rs .form ≡ Form.Read → AnswersTaken (entered e x v) rs)
+        → cond {A = Entries} b (refused tooMany (answerPlace (e .count)))
+        (elim a [ AnswerRecord.Answer x v ↦ answersFrom (entered e x v) rs | AnswerRecord.Malformed ↦ refused malformed (answerPlace (e .count)) ])
+        .form ≡ Form.Read
+        → AnswersTaken e (r ∷ rs)
+    go true c a d more f = no-refusal _ _ f
+    go false c (AnswerRecord.Answer x v) d more f =
+        let t = more x v (omega (arith, eqb-false (e .count) slots c)) f in
+        record { rows = more-rows r rs x v (answer-record r x v d) (t .rows); few = omega (arith, t .few) }
+    go false c AnswerRecord.Malformed d more f = no-refusal _ _ f
+
+-- ---- the whole text
+
+-- how a text that is read lies
+pub record Laid (text : List ℕ) : Type 0 where
+  pub opening : Opening
+  pub head : List (List ℕ)
+  pub rows : List (List (List ℕ))
+  pub points : List ℤ
+  pub values : List ℤ
+  pub spelled-head : Spells head (openingNumbers opening)
+  pub spelled-rows : SpellsAnswers rows points values
+  pub few : length rows ≤ slots
+  pub whole : textOf (map joined (head ∷ rows)) ≡ text
+
+laid : (r : List ℕ) (rs : List (List ℕ)) (o : Opening) → RecordText r (openingNumbers o) → AnswersTaken (opened o) rs → Laid (flatten (r ∷ rs))
+unfolding flatten opened
+laid r rs o h t =
+    record {
+      opening = o;
+      head = h .fields;
+      rows = t .rows .rows;
+      points = t .rows .points;
+      values = t .rows .values;
+      spelled-head = h .spelled;
+      spelled-rows = t .rows .spelled;
+      few = omega (arith, t .few, t .rows .count);
+      whole = ap₂ (λ (s t : List ℕ). s ++ t) (h .whole) (t .rows .whole);
+    }
+
+records-laid : (rs : List (List ℕ)) → recordsRead rs .form ≡ Form.Read → Laid (flatten rs)
+unfolding recordsRead opened
+records-laid [] f = no-refusal _ _ f
+records-laid (r ∷ rs) f = go (openingOf r) refl f
+  where
+    go : (a : OpeningRecord) → openingOf r ≡ a
+        → elim a as (λ x. Entries) [ OpeningRecord.Opened o ↦ answersFrom (opened o) rs | OpeningRecord.Malformed ↦ refused malformed openingPlace ]
+        .form ≡ Form.Read
+        → Laid (flatten (r ∷ rs))
+    go (OpeningRecord.Opened o) d f = laid r rs o (opening-record r o d) (answers-taken (opened o) rs (omega arith) f)
+    go OpeningRecord.Malformed d f = no-refusal _ _ f
+
+pub entries-laid : (text : List ℕ) → entriesOf text .form ≡ Form.Read → Laid text
+unfolding entriesOf
+entries-laid text = go (ltb longestText (length text))
+  where
+    go : (b : Bool) → cond b (refused tooLong wholeText) (recordsRead (recordsOf text)) .form ≡ Form.Read → Laid text
+    go true f = no-refusal _ _ f
+    go false f = subst Laid (records-whole text) (records-laid (recordsOf text) f)

@@ -1,0 +1,140 @@
+-- A run and sheets, worked by hand: what the journal tells, what the calls answer and what the search holds in the end hold by
+-- computation; each sheet is spelled byte by byte.
+-- Assumes nothing.
+use Prim.Native.Nat.{ℕ, _≤_}
+use mathlib.Core.Path.{_≡_, refl}
+use mathlib.Core.List.{List, [], _∷_, map}
+use native.Mathlib.Omega.{arith}
+use lib.IntN.{ℤ, pos}
+use lib.ListN.{length, take}
+use Rattle.integers.specs.Digits.{digits, halvings}
+use Rattle.rules.specs.declared.Opening.{Opening}
+use Rattle.rules.specs.declared.Bracket.{Bracket}
+use Rattle.rules.specs.declared.Report.{Report}
+use Rattle.rules.specs.declared.Report.the-variants.{Next, Stop, Refused}
+use Rattle.rules.specs.Rules.{padded, methodOf, toleranceAt, startOf, lowerOf, upperOf, stoppedOf, forwardOf, displacementOf, linearOf, crossOf}
+use Rattle.rules.specs.Rules.{rationalOf, doubledOf, opposed, partnerOf, streakOf, renewedOf, advanceOf, stepOf, reachOf, offsetOf, nextOf}
+use Rattle.rules.specs.Refusals.{openingRefusal, answerRefusal, sameSide}
+use Rattle.rules.specs.Search.{turnsOf, mostOf, beginOf, offerOf, takeOf, progressOf, bracketReport, reportAt}
+use Rattle.held.specs.Held.{freshOf, standingOf, heldReport, enterOf}
+use Rattle.forms.specs.Examples.{bytes, upTo100, negative}
+use Rattle.journal.specs.Answers.{Answer}
+use Rattle.journal.specs.Spelling.{digit, Digits, Numeral, AnswersText, SheetText}
+use Rattle.journal.specs.Journal.{stopOf, pointCalled, journalReport, refusalOf, journalWith, toldOf, journalAfter, toldAll, bracketsOf}
+use Rattle.journal.specs.Run.{Call, byValue, into, offered, reportsOf, searchAfter, journalOf}
+
+abbrev answer : ℤ → ℤ → Answer
+answer p v = record { point = p; value = v }
+
+-- from the lower end to the upper
+record Ends : Type 0 where
+  lower : ℕ
+  upper : ℕ
+
+abbrev between : ℕ → ℕ → Ends
+between lower upper = record { lower = lower; upper = upper }
+
+abbrev endsOf : Bracket → Ends
+endsOf k = between (lowerOf k) (upperOf k)
+
+-- ---- a run by M from 0 to 100 with τ 1, by value and into the host's own search in a mixture
+
+abbrev calls : List Call
+calls =
+    byValue (answer (pos 0) (negative 50))
+    -- 100 is called for
+    ∷ into (answer (pos 33) (pos 5))
+    -- a value out of range
+    ∷ byValue (answer (pos 100) (pos 10001))
+    -- both below target
+    ∷ into (answer (pos 100) (negative 3))
+    ∷ into (answer (pos 100) (pos 100))
+    ∷ byValue (answer (pos 33) (negative 10))
+    ∷ into (answer (pos 41) (negative 2))
+    ∷ byValue (answer (pos 43) (pos 1))
+    -- the search had stopped
+    ∷ into (answer (pos 43) (pos 1))
+    ∷ []
+
+abbrev reports : List Report
+reports =
+    Next 100 1 ∷ Refused 6 1 ∷ Refused 7 1 ∷ Refused 8 1 ∷ Next 33 2 ∷ Next 41 3 ∷ Next 43 4 ∷ Stop 41 43 43 5 ∷ Refused 5 5 ∷ []
+
+abbrev entries : List Answer
+entries =
+    answer (pos 0) (negative 50) ∷ answer (pos 100) (pos 100) ∷ answer (pos 33) (negative 10) ∷ answer (pos 41) (negative 2) ∷ answer (pos 43) (pos 1) ∷ []
+
+-- the ends of the journal's brackets after each entry, from the second on
+abbrev ends : List Ends
+ends = between 0 100 ∷ between 33 100 ∷ between 41 100 ∷ between 41 43 ∷ []
+
+record WorkedRun : Type 0 where
+  -- what the journal tells, what it holds in the end, and its brackets
+  told : toldAll upTo100 [] (map offered calls) ≡ reports
+  journal : journalOf upTo100 calls ≡ entries
+  brackets : map endsOf (bracketsOf entries) ≡ ends
+  -- what the calls answer, the search's own report after the three refusals, and what the search holds in the end
+  answered : reportsOf (freshOf upTo100) calls ≡ reports
+  own : heldReport (searchAfter (freshOf upTo100) (take 4 calls)) ≡ Next 100 1
+  search : searchAfter (freshOf upTo100) calls
+      ≡ record {
+        opening = upTo100;
+        count = 5;
+        slots = padded (negative 50 ∷ pos 100 ∷ negative 10 ∷ negative 2 ∷ pos 1 ∷ []);
+      }
+
+worked-run : WorkedRun
+unfolding stopOf pointCalled journalReport refusalOf journalWith toldOf journalAfter toldAll bracketsOf reportsOf searchAfter
+    standingOf heldReport enterOf
+    methodOf toleranceAt startOf stoppedOf forwardOf displacementOf linearOf crossOf rationalOf doubledOf opposed partnerOf streakOf renewedOf
+    advanceOf stepOf reachOf offsetOf nextOf openingRefusal answerRefusal sameSide
+    beginOf offerOf takeOf progressOf bracketReport reportAt
+worked-run = record { told = refl; journal = refl; brackets = refl; answered = refl; own = refl; search = refl }
+
+-- ---- the bound is reached: by M from 0 to 2 with τ 1, t is 0, two answers may be needed, and with the second the search stops
+
+abbrev upTo2 : Opening
+upTo2 = record { method = pos 1; first = pos 0; second = pos 2; tolerance = pos 1 }
+
+abbrev twoCalls : List Call
+twoCalls = byValue (answer (pos 0) (negative 1)) ∷ into (answer (pos 2) (pos 1)) ∷ []
+
+bound-reached : length (journalOf upTo2 twoCalls) ≡ mostOf upTo2
+unfolding stopOf pointCalled refusalOf journalWith journalAfter sameSide methodOf turnsOf digits halvings
+bound-reached = refl
+
+-- ---- numbers and their bytes
+
+digits-of-42 : Digits (bytes "00042") 42
+digits-of-42 =
+    Digits.more (Digits.more (Digits.more (Digits.more (Digits.one 0 (omega arith)) 0 (omega arith)) 0 (omega arith)) 4 (omega arith)) 2 (omega arith)
+
+leading-zeros : Numeral (bytes "00042") (pos 42)
+leading-zeros = Numeral.plain digits-of-42 (omega arith)
+
+negated-42 : Numeral (bytes "-00042") (negative 42)
+negated-42 = Numeral.negated digits-of-42 (omega arith)
+
+minus-zero : Numeral (bytes "-0") (pos 0)
+minus-zero = Numeral.negated (Digits.one 0 (omega arith)) (omega arith)
+
+-- of one digit
+one-digit : (d : ℕ) → d ≤ 9 → Numeral (digit d ∷ []) (pos d)
+one-digit d h = Numeral.plain (Digits.one d h) (omega arith)
+
+hundred : Numeral (bytes "100") (pos 100)
+hundred = Numeral.plain (Digits.more (Digits.more (Digits.one 1 (omega arith)) 0 (omega arith)) 0 (omega arith)) (omega arith)
+
+minus-fifty : Numeral (bytes "-50") (negative 50)
+minus-fifty = Numeral.negated (Digits.more (Digits.one 5 (omega arith)) 0 (omega arith)) (omega arith)
+
+-- ---- sheets and their bytes
+
+no-answer : SheetText (bytes "1,0,100,1\r\n") upTo100 []
+no-answer = SheetText.sheet (one-digit 1 (omega arith)) (one-digit 0 (omega arith)) hundred (one-digit 1 (omega arith)) AnswersText.none
+
+-- with −0 and with leading zeros
+two-answers : SheetText (bytes "1,-0,100,1\r\n-0,-50\r\n100,00042\r\n") upTo100 (answer (pos 0) (negative 50) ∷ answer (pos 100) (pos 42) ∷ [])
+two-answers =
+    SheetText.sheet (one-digit 1 (omega arith)) minus-zero hundred (one-digit 1 (omega arith))
+    (AnswersText.next minus-zero minus-fifty (AnswersText.next hundred leading-zeros AnswersText.none))

@@ -1,0 +1,38 @@
+/* The refusals in words, for the examples. */
+#ifndef EXAMPLES_REFUSALS_H
+#define EXAMPLES_REFUSALS_H
+
+#include "busdekker.h"
+
+static const char *refusal_in_words(uint32_t number) {
+    switch (number) {
+    case BUSDEKKER_TEXT_TOO_LONG:
+        return "the text is longer than 4,096 bytes";
+    case BUSDEKKER_TOO_MANY_ANSWERS:
+        return "it is a 73rd answer";
+    case BUSDEKKER_MALFORMED_RECORD:
+        return "the form of the record is wrong";
+    case BUSDEKKER_COUNT_ABOVE_SLOTS:
+        return "the search says that it holds more than 72 answers";
+    case BUSDEKKER_UNKNOWN_METHOD:
+        return "the method is not 0, 1 or 2";
+    case BUSDEKKER_END_OUT_OF_RANGE:
+        return "an end is not from 0.00 to 200.00 degrees";
+    case BUSDEKKER_ENDS_EQUAL:
+        return "the two ends are equal";
+    case BUSDEKKER_TOLERANCE_OUT_OF_RANGE:
+        return "the tolerance is not from 0.01 to 50.00 degrees";
+    case BUSDEKKER_HAD_STOPPED:
+        return "the search had stopped";
+    case BUSDEKKER_NOT_CALLED_FOR:
+        return "the setting is not the one called for";
+    case BUSDEKKER_VALUE_OUT_OF_RANGE:
+        return "the value is not from -100.00 to 100.00";
+    case BUSDEKKER_SAME_SIDE:
+        return "the first two values are on the same side of target";
+    default:
+        return "no refusal of this interface";
+    }
+}
+
+#endif

@@ -1,0 +1,22 @@
+// The header in C++: it is included, every function is called, and the program links. It prints nothing and exits 0, or 1 if an answer is not
+// the one expected.
+#include "busdekker.h"
+
+int main() {
+    const busdekker_opening opening = {BUSDEKKER_M, 0, 2, 1};
+    const busdekker_opening refused = {BUSDEKKER_R, 7, 7, 1};
+    const int32_t values[] = {-1, 1};
+    const uint8_t text[] = {'1', ',', '0', ',', '2', ',', '1', '\r', '\n'};
+    busdekker_search search;
+    bool same = busdekker_version() == BUSDEKKER_VERSION;
+    same = same && busdekker_quote(opening).kind == BUSDEKKER_QUOTED && busdekker_quote(refused).kind == BUSDEKKER_REFUSED;
+    same = same && busdekker_open(&search, opening).kind == BUSDEKKER_NEXT;
+    same = same && busdekker_open(&search, refused).number == BUSDEKKER_ENDS_EQUAL;
+    same = same && busdekker_enter(&search, 0, -1).point == 2;
+    const busdekker_answered answered = busdekker_entered(search, 2, 1);
+    same = same && answered.report.kind == BUSDEKKER_STOP && answered.search.count == 2 && search.count == 1;
+    same = same && busdekker_ask(&search).taken == 1;
+    same = same && busdekker_values(opening, values, 2).better == 2;
+    same = same && busdekker_sheet(text, sizeof text).kind == BUSDEKKER_NEXT;
+    return same ? 0 : 1;
+}
