@@ -7,6 +7,9 @@ use borrow.Author.Needs.{needs}
 use Rattle.trials.proofs.show.Statement.{statement}
 use Rattle.trials.proofs.show.Tie as tie
 
+write-all-requires : tie.Need-write-all-requires
+write-all-requires c κs = search needs
+
 slice-aggregate-write-report : tie.Need-slice-aggregate-write-report
 slice-aggregate-write-report c = search needs
 
@@ -21,8 +24,8 @@ slice-aggregate-write-all c =
     let e = c .before .before .write-report .ensures in
     sym (length-take-le _ _ (written-within _ _ _ _ (e .0) (e .1 .0)))
 
-write-all-requires : tie.Need-write-all-requires
-write-all-requires c κs = search needs
+write-all-requires-2 : tie.Need-write-all-requires-2
+write-all-requires-2 c κs = search needs
 
 returns : tie.Need-returns
 returns c = search needs
@@ -31,9 +34,10 @@ pub show-spec : {M : Type 1} → statement M
 show-spec =
     tie.close
     (tie.spec
+    write-all-requires
     slice-aggregate-write-report
     write-report-requires
     array-share-prefix-out
     slice-aggregate-write-all
-    write-all-requires
+    write-all-requires-2
     returns)

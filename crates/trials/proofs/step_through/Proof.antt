@@ -7,13 +7,10 @@ use Rattle.trials.proofs.step_through.Statement.{statement}
 use Rattle.trials.proofs.step_through.Tie as tie
 
 abbrev Inv-loop : tie.InvT-loop
-Inv-loop label values report₀ search₀ i₀ report search i = Unit {0}
+Inv-loop what kind points values search₀ i₀ search i = Unit {0}
 
 abbrev μ-loop : tie.MeasureT-loop
-μ-loop label values report₀ search₀ i₀ report search i = length values - i
-
-write-all-requires : tie.Need-write-all-requires Inv-loop μ-loop
-write-all-requires c κs = search needs
+μ-loop what kind points values search₀ i₀ search i = length values - i
 
 fresh-requires : tie.Need-fresh-requires Inv-loop μ-loop
 fresh-requires c κs = search needs
@@ -24,17 +21,20 @@ show-requires c κs = search needs
 loop-holds : tie.Need-loop-holds Inv-loop μ-loop
 loop-holds c = search needs
 
-mul-v : tie.Need-mul-v Inv-loop μ-loop
-mul-v c = search needs
+mul-call : tie.Need-mul-call Inv-loop μ-loop
+mul-call c = search needs
 
-shared-slice-copy-out-v : tie.Need-shared-slice-copy-out-v Inv-loop μ-loop
-shared-slice-copy-out-v c = search needs
+shared-slice-copy-out-call : tie.Need-shared-slice-copy-out-call Inv-loop μ-loop
+shared-slice-copy-out-call c = search needs
 
-called-requires : tie.Need-called-requires Inv-loop μ-loop
-called-requires c κs = search needs
+mul-call-2 : tie.Need-mul-call-2 Inv-loop μ-loop
+mul-call-2 c = search needs
 
-enter-requires : tie.Need-enter-requires Inv-loop μ-loop
-enter-requires c κs = search needs
+shared-slice-copy-out-call-2 : tie.Need-shared-slice-copy-out-call-2 Inv-loop μ-loop
+shared-slice-copy-out-call-2 c = search needs
+
+call-requires : tie.Need-call-requires Inv-loop μ-loop
+call-requires c κs = search needs
 
 show-requires-2 : tie.Need-show-requires-2 Inv-loop μ-loop
 show-requires-2 c κs = search needs
@@ -57,14 +57,14 @@ step-through-spec =
     (tie.spec
     Inv-loop
     μ-loop
-    write-all-requires
     fresh-requires
     show-requires
     loop-holds
-    mul-v
-    shared-slice-copy-out-v
-    called-requires
-    enter-requires
+    mul-call
+    shared-slice-copy-out-call
+    mul-call-2
+    shared-slice-copy-out-call-2
+    call-requires
     show-requires-2
     add-i
     loop-less
