@@ -22,16 +22,7 @@ fn refuse(number: u32, place: u32) -> Entered
 {
     Entered {
         report: Report::Refused { number, place },
-        search: Search {
-            opening: Opening {
-                method: 0,
-                first: 0,
-                second: 0,
-                tolerance: 0,
-            },
-            count: 0,
-            slots: [0; rules::SLOTS],
-        },
+        search: Search::blank(),
     }
 }
 
