@@ -50,7 +50,7 @@ fn told(opening: Opening, count: u32, held: &[i32], points: &[i32], values: &[i3
 {
     if rules::SLOTS < count as usize {
         return Report::Refused {
-            number: 9,
+            number: rules::COUNT_ABOVE,
             place: 0,
         };
     }
