@@ -45,14 +45,14 @@ extern "C" {
 #define BUSDEKKER_STACK 2048
 
 /* The methods. */
-enum {
+enum busdekker_method {
     BUSDEKKER_HOUSE = 0, /* the house default, which is M */
     BUSDEKKER_M = 1,
     BUSDEKKER_R = 2
 };
 
 /* The kinds of reports and quotations. */
-enum {
+enum busdekker_kind {
     BUSDEKKER_NEXT = 1,    /* a trial is called for */
     BUSDEKKER_STOP = 2,    /* the search has stopped */
     BUSDEKKER_REFUSED = 3, /* something is refused */
@@ -60,7 +60,7 @@ enum {
 };
 
 /* The numbers of refusals, in the order in which they are checked. The first that applies is told. */
-enum {
+enum busdekker_refusal {
     /* the whole text */
     BUSDEKKER_TEXT_TOO_LONG = 10, /* longer than 4,096 bytes */
     /* each record in turn */

@@ -18,7 +18,8 @@ use Rattle.rules.specs.declared.Progress.{Progress}
 use Rattle.rules.specs.declared.Report.{Report}
 use Rattle.rules.specs.Rules.{lowerOf, upperOf, stoppedOf, nextOf}
 use Rattle.rules.specs.Refusals.{openingRefusal, answerRefusal, tooLarge}
-use Rattle.rules.specs.Search.{isRefused, stoppedAt, sameSideAt, takenOf, enteredAt, answeredAt, beginOf, offerOf, takeOf, progressOf, answersOf, bracketReport, reportAt}
+use Rattle.rules.specs.Search.{isRefused, stoppedAt, sameSideAt, takenOf, enteredAt, answeredAt, beginOf, offerOf, takeOf, progressOf}
+use Rattle.rules.specs.Search.{answersOf, bracketReport, reportAt}
 use Rattle.rules.specs.SearchLaws.{sound-begin, sound-offer, refused-stays, answers-stay}
 use Rattle.answers.specs.Answers.{valueAt, otherThan, otherFrom, onwardOf, Led, Ended}
 
@@ -40,7 +41,8 @@ other-going o n xs i k e = simp e
 pub second-ended : (o : Opening) (n : ℕ) (u : ℤ) (other : Bool) (v : ℤ) → Ended n (answeredAt o (Progress.First u) other v)
 second-ended o n u other v = go (eqb (answerRefusal false other (tooLarge v) (sameSideAt (Progress.First u) v)) 0)
   where
-    go : (b : Bool) → Ended n (cond b (enteredAt o (Progress.First u) v) (Progress.Refused (answerRefusal false other (tooLarge v) (sameSideAt (Progress.First u) v)) 1))
+    go : (b : Bool)
+        → Ended n (cond b (enteredAt o (Progress.First u) v) (Progress.Refused (answerRefusal false other (tooLarge v) (sameSideAt (Progress.First u) v)) 1))
     go true = tt
     go false = tt
 
@@ -84,8 +86,10 @@ module _ (o : Opening) (vs xs ts : List ℤ) where
             let y : i - length vs < length xs = omega arith in
             let y' : i - length vs < length ts = omega arith in
             let z : (i + 1) - length vs ≡ (i - length vs) + 1 = omega arith in
+            let j = i - length vs in
             simp f
-            (rw (drop-of-length-le vs {i = i} q, drop-of-length-le vs {i = i + 1} (omega arith), z, drop-cons xs (i - length vs) (pos 0) y, drop-cons ts (i - length vs) (pos 0) y', add-one (i - length vs)))
+            (rw (drop-of-length-le vs {i = i} q, drop-of-length-le vs {i = i + 1} (omega arith), z)
+            (rw (drop-cons xs j (pos 0) y, drop-cons ts j (pos 0) y', add-one j)))
 
     -- no answer is left
     pub led-end : length vs + length ts ≤ i → length xs ≡ length ts → answersOf o (progressOf o vs) xs ts ≡ p
@@ -104,7 +108,8 @@ module _ (o : Opening) (vs xs ts : List ℤ) where
 
     -- one answer more, refused or entered: n is its refusal, `other` whether it names another point, and v its value
     module _ (going : isRefused p ≡ false) (h : i < length vs + length ts) (e : length xs ≡ length ts) (other : Bool) (v : ℤ) (n : ℕ)
-        (by : other ≡ otherFrom o (length vs) xs i p) (is : v ≡ valueAt vs ts i) (f : n ≡ answerRefusal (stoppedAt o p) other (tooLarge v) (sameSideAt p v)) where
+        (by : other ≡ otherFrom o (length vs) xs i p) (is : v ≡ valueAt vs ts i)
+        (f : n ≡ answerRefusal (stoppedAt o p) other (tooLarge v) (sameSideAt p v)) where
       pub led-tried : Led o vs xs ts (i + 1) (answeredAt o p other v)
       led-tried = subst (Led o vs xs ts (i + 1)) (rw (by, is) (offered o p _ _ going)) (led-more h e)
 

@@ -80,7 +80,7 @@ fn step_open(search: Search, opening: Opening) -> Answered
 fn step_enter(search: Search, point: i32, value: i32) -> Written
     ensures { λ r. ⌜ r ≡ writtenOf (verdictOf search point value) ⌝ }
 {
-    let v = held::judge(search, point, value);
+    let v = lent::judge(search, point, value);
     let report = v.report;
     Written {
         report: printing::row_of(report),
@@ -170,7 +170,8 @@ pub extern "C" fn busdekker_ask(search: &Search) -> Row
 pub extern "C" fn busdekker_values(opening: Opening, values: &[i32]) -> Row
     ensures { λ r. ⌜ r ≡ rowOf (reportOf opening (now (values .entry))) ⌝ }
 {
-    printing::row_of(search::report_on(opening, values))
+    let listed = search::report_on(opening, values);
+    printing::row_of(listed)
 }
 
 // The outcome of a trial sheet; the place of a refusal is a record.

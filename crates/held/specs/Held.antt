@@ -26,6 +26,10 @@ countAbove = 9
 abbrev pub freshOf : Opening → Search
 freshOf o = record { opening = o; count = 0; slots = replicate slots (pos 0) }
 
+-- what stands beside the refusal of an opening where there was no search: every number 0. Its ends are equal, so every call refuses it
+abbrev pub blank : Search
+blank = freshOf (record { method = pos 0; first = pos 0; second = pos 0; tolerance = pos 0 })
+
 -- an opening offered to a search. Accepted: the report and a fresh search. Refused: the refusal, and the search as it was
 unfoldable pub reopenOf : Search → Opening → Entered
 reopenOf s o =
@@ -33,10 +37,7 @@ reopenOf s o =
     (record { report = reportOf o []; search = freshOf o })
     (record { report = Report.Refused (openingRefusal o) 0; search = s })
 
--- what stands beside the refusal of an opening where there was no search: every number 0. Its ends are equal, so every call refuses it
-abbrev pub blank : Search
-blank = freshOf (record { method = pos 0; first = pos 0; second = pos 0; tolerance = pos 0 })
-
+-- the same where there was no search: a blank
 abbrev pub openOf : Opening → Entered
 openOf = reopenOf blank
 

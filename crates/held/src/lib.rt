@@ -50,7 +50,7 @@ fn told(opening: Opening, count: u32, held: &[i32], points: &[i32], values: &[i3
 {
     if rules::SLOTS < count as usize {
         return Report::Refused {
-            number: 9,
+            number: rules::COUNT_ABOVE,
             place: 0,
         };
     }
@@ -104,13 +104,6 @@ pub fn judge_parts(
         at: count as usize,
         value,
     }
-}
-
-// The same of a search.
-pub fn judge(s: Search, point: i32, value: i32) -> Verdict
-    ensures { λ r. ⌜ r ≡ verdictOf s point value ⌝ }
-{
-    judge_parts(s.opening, s.count, &s.slots, point, value)
 }
 
 impl Search {

@@ -20,6 +20,7 @@ pub linear-estimate : (b a : Sample) (up : Bool) → estimateOf (b .value) (b .v
 unfolding estimateOf linearOf
 linear-estimate b a up = rw (eqZ-difference (b .value) (a .value))
 
-pub rational-estimate : (b a d : Sample) (up : Bool) → estimateOf (crossOf b a d) (crossOf b a d -ℤ crossOf a b d) (b .point) (a .point) up ≡ rationalOf b a d up
+pub rational-estimate : (b a d : Sample) (up : Bool)
+    → estimateOf (crossOf b a d) (crossOf b a d -ℤ crossOf a b d) (b .point) (a .point) up ≡ rationalOf b a d up
 unfolding estimateOf rationalOf
 rational-estimate b a d up = refl

@@ -2,8 +2,10 @@
 // and calls the step by value of crate `held`; what a refusal leaves is the search as it was.
 ghost use mathlib.Core.Path.{_≡_};
 ghost use Rattle.held.specs.Held.{reopenOf, enterOf};
+ghost use Rattle.held.specs.Judged.{verdictOf};
 use held::Entered;
 use held::Search;
+use held::Verdict;
 use rules::Opening;
 use rules::Report;
 
@@ -17,12 +19,19 @@ pub fn open_into(search: &mut Search, opening: Opening) -> Report
     e.report
 }
 
+// What an answer, a point and its value, does to a search.
+pub fn judge(s: Search, point: i32, value: i32) -> Verdict
+    ensures { λ r. ⌜ r ≡ verdictOf s point value ⌝ }
+{
+    held::judge_parts(s.opening, s.count, &s.slots, point, value)
+}
+
 // Enters an answer into the host's search: one slot and the count are stored. A refused answer leaves them as they were.
 pub fn enter_into(search: &mut Search, point: i32, value: i32) -> Report
     ensures { λ r. ⌜ (r ≡ (enterOf (now (search .entry)) point value) .report)
         × (now (search .exit) ≡ (enterOf (now (search .entry)) point value) .search) ⌝ }
 {
-    let v = held::judge(*search, point, value);
+    let v = judge(*search, point, value);
     let at = v.at;
     (*search).slots[at] = v.value;
     (*search).count = v.count;

@@ -25,7 +25,9 @@ digits-leading k h =
     let s = leading-length 32 k h in
     let d = digits-least k in
     let low : digits k ≤ s .0 = d .least (s .0) (s .2) in
-    let high : s .0 ≤ digits k = le-of-suc-le-suc (lt-of-not-le (λ (l : suc (digits k) ≤ s .0). omega (arith, pow-mono l, pow-suc 2 (digits k), d .holds, s .3))) in
+    let high : s .0 ≤ digits k =
+    le-of-suc-le-suc
+    (lt-of-not-le (λ (l : suc (digits k) ≤ s .0). omega (arith, pow-mono l, pow-suc 2 (digits k), d .holds, s .3))) in
     omega (arith, s .1)
 
 pub allowed-few : (m : Method) → allowed m ≤ 4

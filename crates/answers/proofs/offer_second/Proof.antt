@@ -1,5 +1,6 @@
 -- `answers::offer_second` meets its contract: the row's first refusal, or the bracket of the two samples.
 -- Assumes nothing.
+use Prim.Native.Nat.{ℕ}
 use mathlib.Core.Path.{_≡_, sym, ap, _∙_}
 use borrow.Author.Tests.{eq-eqb, ne-eqb}
 use mir.Syntax.{w32}
@@ -12,7 +13,10 @@ use borrow.Author.Needs.{needs}
 use Rattle.answers.proofs.offer_second.Statement.{statement}
 use Rattle.answers.proofs.offer_second.Tie as tie
 
-refusal : (c : tie.After-answer-refusal) → c .answer-refusal .result ≡ answerRefusal false (c .before .before .before .args .other) (tooLarge (c .before .before .before .args .v)) (sameSide (c .before .before .before .args .u) (c .before .before .before .args .v))
+abbrev refusal-of : tie.Start → ℕ
+refusal-of s = answerRefusal false (s .args .other) (tooLarge (s .args .v)) (sameSide (s .args .u) (s .args .v))
+
+refusal : (c : tie.After-answer-refusal) → c .answer-refusal .result ≡ refusal-of (c .before .before .before)
 refusal c =
     let s = c .before .before .before in
     c .answer-refusal .ensures ∙ rw (c .before .before .too-large .ensures, c .before .same-side .ensures, read (s .fits .u), read (s .fits .v))
@@ -46,8 +50,10 @@ returns-2 c =
     let s = p .before .before .before .before in
     let f : SFits w32 (s .args .o .first) = search needs in
     let g : SFits w32 (s .args .o .second) = search needs in
+    let m = c .before .before .before .magnitude .ensures in
     simp (eq-eqb _ 0 (sym (refusal (p .before)) ∙ p .if1 .left))
-    (ap Progress.Bracketed (c .start .ensures ∙ rw (c .before .magnitude2 .ensures, c .before .before .before .magnitude .ensures, read f, read g, read (s .fits .u), read (s .fits .v))))
+    (ap Progress.Bracketed
+    (c .start .ensures ∙ rw (c .before .magnitude2 .ensures, m, read f, read g, read (s .fits .u), read (s .fits .v))))
 
 pub offer-second-spec : {M : Type 1} → statement M
 offer-second-spec =

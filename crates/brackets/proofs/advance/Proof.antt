@@ -22,13 +22,15 @@ returns : tie.Need-returns
 unfolding advanceOf
 returns c =
     let p = c .before .before in
-    simp (rw (p .before .partner .ensures) at (sym (p .closer .ensures)) ∙ c .before .if1 .taken) (c .renewed .ensures ∙ rw (p .before .partner .ensures))
+    simp (rw (p .before .partner .ensures) at (sym (p .closer .ensures)) ∙ c .before .if1 .taken)
+    (c .renewed .ensures ∙ rw (p .before .partner .ensures))
 
 returns-2 : tie.Need-returns-2
 unfolding advanceOf
 returns-2 c =
     let p = c .before .before in
-    simp (rw (p .before .partner .ensures) at (sym (p .closer .ensures)) ∙ c .before .if1 .left) (c .renewed2 .ensures ∙ rw (p .before .partner .ensures))
+    simp (rw (p .before .partner .ensures) at (sym (p .closer .ensures)) ∙ c .before .if1 .left)
+    (c .renewed2 .ensures ∙ rw (p .before .partner .ensures))
 
 pub advance-spec : {M : Type 1} → statement M
 advance-spec =

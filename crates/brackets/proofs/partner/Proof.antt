@@ -1,6 +1,7 @@
 -- `brackets::partner` meets its contract: the sign test and the test of the points are the definition's.
 -- Assumes nothing.
 use mathlib.Core.Path.{_≡_, sym, _∙_}
+use mathlib.Core.Bool.{Bool}
 use borrow.Author.Tests.{eq-eqb, ne-eqb}
 use mir.Syntax.{w32}
 use mir.Val.{SFits}
@@ -10,7 +11,10 @@ use borrow.Author.Needs.{needs}
 use Rattle.brackets.proofs.partner.Statement.{statement}
 use Rattle.brackets.proofs.partner.Tie as tie
 
-test : (c : tie.After-opposed) → opposed (c .before .before .before .before .args .x .value) (c .before .before .before .before .args .k .last .value) ≡ c .opposed .result
+abbrev opposed-at : tie.Start → Bool
+opposed-at s = opposed (s .args .x .value) (s .args .k .last .value)
+
+test : (c : tie.After-opposed) → opposed-at (c .before .before .before .before) ≡ c .opposed .result
 test c =
     let s = c .before .before .before .before .args in
     let f : SFits w32 (s .x .value) = search needs in

@@ -22,7 +22,9 @@ add-t10 c = search needs
 
 returns : tie.Need-returns
 unfolding renewedOf
-returns c = simp (c .before .third .ensures, c .before .before .streak-after .ensures, c .before .before .before .gap .ensures, c .before .before .before .before .width .ensures)
+returns c =
+    let g = c .before .before .before in
+    simp (c .before .third .ensures, c .before .before .streak-after .ensures, g .gap .ensures, g .before .width .ensures)
 
 pub renewed-spec : {M : Type 1} → statement M
 renewed-spec =

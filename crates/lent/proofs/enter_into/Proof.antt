@@ -14,8 +14,8 @@ use Rattle.held.specs.Judged.{verdictOf}
 use Rattle.held.specs.HeldLaws.{stores}
 use Rattle.held.proofs.Verdict as E
 use Rattle.held.proofs.Verdict.Laws as E′
-use Rattle.held.proofs.judge.Symbol as step
-use Rattle.held.proofs.judge.Met as step-thm
+use Rattle.lent.proofs.judge.Symbol as step
+use Rattle.lent.proofs.judge.Met as step-thm
 use Rattle.lent.proofs.enter_into as f
 use Rattle.lent.proofs.enter_into.Key as key
 use Rattle.lent.proofs.enter_into.Statement as stated
@@ -45,4 +45,4 @@ unfolding code.routine
 enter-into-spec 𝓤 H 𝓜 𝓖 𝓡 =
     stores-two report verdict verdict-laws verdictOf within 𝓤 H 𝓜 𝓖 𝓡 (f.clauses 𝓤 H (𝓖 .A) (𝓜 .mem) (𝓡 .run))
     (λ κs a g l r e. let s = stores _ _ _ r l e in factI 𝓤 _ (emp 𝓤) (s .told, s .left))
-    code.env key.name step.name (code.unfolded 𝓤 H 𝓜 𝓡) step.routine code.calls-held·judge (step-thm.met 𝓤 H 𝓜 𝓖 𝓡)
+    code.env key.name step.name (code.unfolded 𝓤 H 𝓜 𝓡) step.routine code.calls-lent·judge (step-thm.met 𝓤 H 𝓜 𝓖 𝓡)

@@ -20,7 +20,8 @@ returns c =
 returns-2 : tie.Need-returns-2
 returns-2 c =
     let s = c .before .before .before in
-    simp (sym (rw (read (s .fits .first)) at (c .before .before .beyond .ensures)) ∙ c .before .if1 .left) (rw (read (s .fits .second)) at (c .beyond2 .ensures))
+    simp (sym (rw (read (s .fits .first)) at (c .before .before .beyond .ensures)) ∙ c .before .if1 .left)
+    (rw (read (s .fits .second)) at (c .beyond2 .ensures))
 
 pub end-beyond-spec : {M : Type 1} → statement M
 end-beyond-spec = tie.close (tie.spec beyond-requires beyond-requires-2 returns returns-2)

@@ -70,7 +70,8 @@ magnitude-requires-3 c κs = search needs
 turns-requires : tie.Need-turns-requires
 turns-requires c κs =
     let op = opening-fits (else-of c) in
-    (rw (tolerance-is c) (op .tolerance .least), rw (tolerance-is c) (omega (arith, op .tolerance .most)), rw (distance-is (c .before .before)) (omega (arith, op .apart)))
+    let τ = tolerance-is c in
+    (rw τ (op .tolerance .least), rw τ (omega (arith, op .tolerance .most)), rw (distance-is (c .before .before)) (omega (arith, op .apart)))
 
 method-of-requires : tie.Need-method-of-requires
 method-of-requires c κs = search needs

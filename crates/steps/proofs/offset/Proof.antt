@@ -21,13 +21,16 @@ step-at-requires c κs = search needs
 reach-requires : tie.Need-reach-requires
 reach-requires c κs =
     let s = c .before .before .before .before in (
-      rw (c .before .before .before .tolerance-at .ensures) (omega (arith, tolerance-most (s .args .o) (s .args .k .better .point) (s .pre .opened))),
+      rw (c .before .before .before .tolerance-at .ensures)
+          (omega (arith, tolerance-most (s .args .o) (s .args .k .better .point) (s .pre .opened))),
       surveyed (s .pre .sound),
     )
 
 returns : tie.Need-returns
 unfolding offsetOf
-returns c = c .reach .ensures ∙ rw (c .before .step-at .ensures, c .before .before .before .method-of .ensures, c .before .before .before .before .tolerance-at .ensures)
+returns c =
+    let m = c .before .before .before in
+    c .reach .ensures ∙ rw (c .before .step-at .ensures, m .method-of .ensures, m .before .tolerance-at .ensures)
 
 pub offset-spec : {M : Type 1} → statement M
 offset-spec =

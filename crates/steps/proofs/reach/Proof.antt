@@ -45,16 +45,23 @@ enum-told-4 c = search needs
 
 returns : tie.Need-returns
 unfolding reachOf
-returns c = rw (c .before .before .enum-told .given .1) (c .displacement .ensures ∙ rw (c .before .linear .ensures .0, c .before .before .before .before .before .before .width .ensures))
+returns c =
+    let w = c .before .before .before .before .before .before in
+    rw (c .before .before .enum-told .given .1) (c .displacement .ensures ∙ rw (c .before .linear .ensures .0, w .width .ensures))
 
 returns-2 : tie.Need-returns-2
 unfolding reachOf
-returns-2 c = rw (c .before .before .enum-told2 .given .1) (c .displacement2 .ensures ∙ rw (c .before .rational .ensures .0, c .before .before .before .before .before .before .width .ensures))
+returns-2 c =
+    let w = c .before .before .before .before .before .before in
+    rw (c .before .before .enum-told2 .given .1) (c .displacement2 .ensures ∙ rw (c .before .rational .ensures .0, w .width .ensures))
 
 returns-3 : tie.Need-returns-3
 unfolding reachOf
-returns-3 c = rw (c .before .before .before .enum-told3 .given .1)
-    (c .displacement3 .ensures ∙ rw (c .before .doubled .ensures .0, c .before .before .rational2 .ensures .0, c .before .before .before .before .before .before .before .width .ensures))
+returns-3 c =
+    let r = c .before .before in
+    let w = r .before .before .before .before .before in
+    rw (r .before .enum-told3 .given .1)
+    (c .displacement3 .ensures ∙ rw (c .before .doubled .ensures .0, r .rational2 .ensures .0, w .width .ensures))
 
 returns-4 : tie.Need-returns-4
 unfolding reachOf

@@ -34,11 +34,15 @@ returns-5 c = rw (c .before .before .enum-told .given .1) (simp (lt-leb _ _ (c .
 
 returns-6 : tie.Need-returns-6
 unfolding stepOf
-returns-6 c = rw (c .before .before .before .enum-told2 .given .1) (simp (c .before .before .if3 .left, lt-leb _ _ (c .before .if4 .left), eq-eqb _ _ (c .if5 .taken)))
+returns-6 c =
+    rw (c .before .before .before .enum-told2 .given .1)
+    (simp (c .before .before .if3 .left, lt-leb _ _ (c .before .if4 .left), eq-eqb _ _ (c .if5 .taken)))
 
 returns-7 : tie.Need-returns-7
 unfolding stepOf
-returns-7 c = rw (c .before .before .before .enum-told2 .given .1) (simp (c .before .before .if3 .left, lt-leb _ _ (c .before .if4 .left), ne-eqb _ _ (c .if5 .left)))
+returns-7 c =
+    rw (c .before .before .before .enum-told2 .given .1)
+    (simp (c .before .before .if3 .left, lt-leb _ _ (c .before .if4 .left), ne-eqb _ _ (c .if5 .left)))
 
 pub step-at-spec : {M : Type 1} → statement M
 step-at-spec =

@@ -33,7 +33,10 @@ magnitude-requires-2 c κs = search needs
 enum-known-p : tie.Need-enum-known-p
 enum-known-p c = search needs
 
-begins : (c : tie.After-first-two) (p : Progress) → c .first-two .result ≡ p → Begins (c .before .args .o) (c .before .args .values .now) (c .before .args .points .now) (c .before .args .tail .now) p
+abbrev BeginsTo : tie.Start → Progress → Type 0
+BeginsTo s p = Begins (s .args .o) (s .args .values .now) (s .args .points .now) (s .args .tail .now) p
+
+begins : (c : tie.After-first-two) (p : Progress) → c .first-two .result ≡ p → BeginsTo (c .before) p
 begins c p e = subst (Begins _ _ _ _) e (c .first-two .ensures)
 
 walk-on-requires : tie.Need-walk-on-requires
@@ -48,7 +51,8 @@ returns c =
     let s = c .before .before .before .before .before in
     let b = begins (c .before .before .before .before) _ (c .before .before .enum-told .given .1) in
     let f : SFits w32 (s .args .o .first) = search needs in
-    ap (λ (x : ℕ). Report.Next x 0) (c .magnitude .ensures ∙ ap natAbs (read f)) ∙ told-end _ _ _ _ 2 Progress.Begun (b .led) (s .pre) (b .ended)
+    ap (λ (x : ℕ). Report.Next x 0) (c .magnitude .ensures ∙ ap natAbs (read f))
+    ∙ told-end _ _ _ _ 2 Progress.Begun (b .led) (s .pre) (b .ended)
 
 returns-2 : tie.Need-returns-2
 unfolding reportAt
@@ -56,7 +60,8 @@ returns-2 c =
     let s = c .before .before .before .before .before in
     let b = begins (c .before .before .before .before) _ (c .before .before .enum-told2 .given .1) in
     let f : SFits w32 (s .args .o .second) = search needs in
-    ap (λ (x : ℕ). Report.Next x 1) (c .magnitude2 .ensures ∙ ap natAbs (read f)) ∙ told-end _ _ _ _ 2 (Progress.First _) (b .led) (s .pre) (b .ended)
+    ap (λ (x : ℕ). Report.Next x 1) (c .magnitude2 .ensures ∙ ap natAbs (read f))
+    ∙ told-end _ _ _ _ 2 (Progress.First _) (b .led) (s .pre) (b .ended)
 
 returns-3 : tie.Need-returns-3
 returns-3 c = search needs

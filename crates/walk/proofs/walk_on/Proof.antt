@@ -50,14 +50,28 @@ value-of c = c .before .before .before .value-at .result
 value-back : (c : tie.After-answer-refusal Inv-loop μ-loop) → toZ w32 (ofZ w32 (value-of c)) ≡ value-of c
 value-back c = let f : SFits w32 (value-of c) = search needs in read f
 
-point-is : (c : tie.After-answer-refusal Inv-loop μ-loop) → c .before .before .before .before .before .next-point .result ≡ nextOf (start-of c .args .o) (at-loop c .loop .k)
+point-is : (c : tie.After-answer-refusal Inv-loop μ-loop)
+    → c .before .before .before .before .before .next-point .result ≡ nextOf (start-of c .args .o) (at-loop c .loop .k)
 point-is c = c .before .before .before .before .before .next-point .ensures
 
-other-is : (c : tie.After-answer-refusal Inv-loop μ-loop) → c .before .before .other-at .result ≡ otherFrom (start-of c .args .o) (length (start-of c .args .values .now)) (start-of c .args .points .now) (at-loop c .loop .i) (Progress.Bracketed (at-loop c .loop .k))
+abbrev other-from : tie.At-loop Inv-loop μ-loop → Bool
+other-from l =
+    let s = l .before .args in
+    otherFrom (s .o) (length (s .values .now)) (s .points .now) (l .loop .i) (Progress.Bracketed (l .loop .k))
+
+other-is : (c : tie.After-answer-refusal Inv-loop μ-loop) → c .before .before .other-at .result ≡ other-from (at-loop c)
 other-is c = c .before .before .other-at .ensures ∙ ap (otherThan _ _ _) (point-is c) ∙ other-going _ _ _ _ _ (going (else-of c))
 
-refusal : (c : tie.After-answer-refusal Inv-loop μ-loop) → c .answer-refusal .result ≡ answerRefusal (stoppedOf (start-of c .args .o) (at-loop c .loop .k)) (c .before .before .other-at .result) (tooLarge (value-of c)) false
-refusal c = c .answer-refusal .ensures ∙ ap₂ (λ (s l : Bool). answerRefusal s (c .before .before .other-at .result) l false) (sym (going (else-of c))) (c .before .too-large .ensures ∙ ap tooLarge (value-back c))
+abbrev refusal-of : tie.After-answer-refusal Inv-loop μ-loop → ℕ
+refusal-of c =
+    answerRefusal (stoppedOf (start-of c .args .o) (at-loop c .loop .k)) (c .before .before .other-at .result) (tooLarge (value-of c)) false
+
+refusal : (c : tie.After-answer-refusal Inv-loop μ-loop) → c .answer-refusal .result ≡ refusal-of c
+refusal c =
+    c .answer-refusal .ensures
+    ∙ ap₂ (λ (stopped large : Bool). answerRefusal stopped (c .before .before .other-at .result) large false)
+    (sym (going (else-of c)))
+    (c .before .too-large .ensures ∙ ap tooLarge (value-back c))
 
 add-total : tie.Need-add-total Inv-loop μ-loop
 add-total c = search needs
@@ -71,7 +85,8 @@ stopped-requires c κs = search needs
 returns : tie.Need-returns Inv-loop μ-loop
 returns c =
     let s = c .before .before .before in
-    told-late _ _ _ _ (s .loop .i) (s .loop .k) (s .loop .inv) (s .before .pre .0) (c .if2 .taken) (sym (c .before .before .stopped .ensures) ∙ c .before .if1 .taken)
+    told-late _ _ _ _ (s .loop .i) (s .loop .k) (s .loop .inv) (s .before .pre .0) (c .if2 .taken)
+    (sym (c .before .before .stopped .ensures) ∙ c .before .if1 .taken)
 
 stop-report-requires : tie.Need-stop-report-requires Inv-loop μ-loop
 stop-report-requires c κs = search needs
@@ -79,7 +94,9 @@ stop-report-requires c κs = search needs
 returns-2 : tie.Need-returns-2 Inv-loop μ-loop
 returns-2 c =
     let s = c .before .before .before .before in
-    c .stop-report .ensures ∙ told-stop _ _ _ _ (s .loop .i) (s .loop .k) (s .loop .inv) (s .before .pre .0) (c .before .if2 .left) (sym (c .before .before .before .stopped .ensures) ∙ c .before .before .if1 .taken)
+    c .stop-report .ensures
+    ∙ told-stop _ _ _ _ (s .loop .i) (s .loop .k) (s .loop .inv) (s .before .pre .0) (c .before .if2 .left)
+    (sym (c .before .before .before .stopped .ensures) ∙ c .before .before .if1 .taken)
 
 next-point-requires : tie.Need-next-point-requires Inv-loop μ-loop
 next-point-requires c κs =
@@ -89,7 +106,8 @@ next-point-requires c κs =
 returns-3 : tie.Need-returns-3 Inv-loop μ-loop
 returns-3 c =
     let s = c .before .before .before .before in
-    told-next _ _ _ _ (s .loop .i) (s .loop .k) (s .loop .inv) (s .before .pre .0) (c .if3 .taken) (going (c .before .before)) _ (c .before .next-point .ensures)
+    told-next _ _ _ _ (s .loop .i) (s .loop .k) (s .loop .inv) (s .before .pre .0) (c .if3 .taken)
+    (going (c .before .before)) _ (c .before .next-point .ensures)
 
 value-at-requires : tie.Need-value-at-requires Inv-loop μ-loop
 value-at-requires c κs = search needs
@@ -106,8 +124,10 @@ answer-refusal-requires c κs = search needs
 returns-4 : tie.Need-returns-4 Inv-loop μ-loop
 returns-4 c =
     let t = c .before in
-    told-refused _ _ _ _ (at-loop t .loop .i + 1) _ _
-    (led-not _ _ _ _ (at-loop t .loop .i) _ (at-loop t .loop .inv) refl (t .before .before .before .before .if3 .left) (start-of t .pre .0) _ _ _ (other-is t) (t .before .before .before .value-at .ensures) (refusal t) (c .if4 .taken))
+    let l = at-loop t .loop in
+    told-refused _ _ _ _ (l .i + 1) _ _
+    (led-not _ _ _ _ (l .i) _ (l .inv) refl (t .before .before .before .before .if3 .left) (start-of t .pre .0) _ _ _
+    (other-is t) (t .before .before .before .value-at .ensures) (refusal t) (c .if4 .taken))
 
 advance-requires : tie.Need-advance-requires Inv-loop μ-loop
 advance-requires c κs = let s = at-loop (c .before) .loop .inv .sound in countable (s .0) (s .1)
@@ -125,10 +145,12 @@ loop-again : tie.Need-loop-again Inv-loop μ-loop
 loop-again c =
     let t = c .before .before in
     let l = at-loop t .loop in
-    let o = start-of t .args .o in
-    let e : advanceOf (l .k) (record { point = nextOf o (l .k); value = value-of t }) ≡ c .advance .result = sym (c .advance .ensures ∙ ap₂ (λ (p : ℕ) (v : ℤ). advanceOf (l .k) (record { point = p; value = v })) (point-is t) (value-back t)) in
-    subst (λ (k : Bracket). Led o (start-of t .args .values .now) (start-of t .args .points .now) (start-of t .args .tail .now) (l .i + 1) (Progress.Bracketed k)) e
-    (led-entered _ _ _ _ (l .i) _ (l .inv) refl (t .before .before .before .before .if3 .left) (start-of t .pre .0) _ _ _ (other-is t) (t .before .before .before .value-at .ensures) (refusal t) (c .before .if4 .left))
+    let s = start-of t .args in
+    let e : c .advance .result ≡ advanceOf (l .k) (record { point = nextOf (s .o) (l .k); value = value-of t }) =
+    c .advance .ensures ∙ ap₂ (λ (p : ℕ) (v : ℤ). advanceOf (l .k) (record { point = p; value = v })) (point-is t) (value-back t) in
+    subst (λ (k : Bracket). Led (s .o) (s .values .now) (s .points .now) (s .tail .now) (l .i + 1) (Progress.Bracketed k)) (sym e)
+    (led-entered _ _ _ _ (l .i) _ (l .inv) refl (t .before .before .before .before .if3 .left) (start-of t .pre .0) _ _ _
+    (other-is t) (t .before .before .before .value-at .ensures) (refusal t) (c .before .if4 .left))
 
 pub walk-on-spec : {M : Type 1} → statement M
 walk-on-spec =

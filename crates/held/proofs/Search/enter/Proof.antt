@@ -1,7 +1,8 @@
 -- `held::Search::enter` meets its contract: the slot and the count that `judge_parts` says are stored.
 -- Assumes nothing.
-use mathlib.Core.Path.{_≡_, ap₂}
+use mathlib.Core.Path.{_≡_, ap, ap₂, _∙_}
 use native.Mathlib.Omega.{arith}
+use lib.IntN.{ℤ}
 use lib.ListN.{length}
 use mir.Syntax.{w32}
 use mir.Val.{SFits}
@@ -9,10 +10,14 @@ use Rattle.integers.specs.Bounds.{read}
 use Rattle.rules.specs.declared.Report.{Report}
 use Rattle.rules.specs.Rules.{slots}
 use Rattle.held.specs.declared.Search.{Search}
-use Rattle.held.specs.HeldLaws.{Stores, stores}
+use Rattle.held.specs.declared.Entered.{Entered}
+use Rattle.held.specs.HeldLaws.{storedBy, Stores, stores}
 use borrow.Author.Needs.{needs}
 use Rattle.held.proofs.Search.enter.Statement.{statement}
 use Rattle.held.proofs.Search.enter.Tie as tie
+
+abbrev withReport : Report → Search → Entered
+withReport r h = record { report = r; search = h }
 
 long : (s : tie.Start) → length (s .args .t1 .slots) ≡ slots
 long s = search needs
@@ -34,9 +39,11 @@ element-set-from-kept c = stored (c .before) .room
 
 returns : tie.Need-returns
 returns c =
+    let s = start-of (c .before) .args .t1 in
     let v = c .before .judge-parts .result in
     let f : SFits w32 (v .value) = search needs in
-    rw (read f) (ap₂ (λ (r : Report) (h : Search). record { report = r; search = h }) (stored (c .before) .told) (stored (c .before) .left))
+    ap (λ (z : ℤ). withReport (v .report) (storedBy s (record { report = v .report; count = v .count; at = v .at; value = z }))) (read f)
+    ∙ ap₂ withReport (stored (c .before) .told) (stored (c .before) .left)
 
 pub enter-spec : {M : Type 1} → statement M
 enter-spec = tie.close (tie.spec judge-parts-requires mul-kept element-set-from-kept returns)

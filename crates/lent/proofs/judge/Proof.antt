@@ -1,9 +1,9 @@
--- `held::judge` meets its contract: a search is the search of its parts.
+-- `lent::judge` meets its contract: a search is the search of its parts.
 -- Assumes nothing.
 use borrow.Author.Needs.{needs}
 use Rattle.integers.specs.Bounds.{read}
-use Rattle.held.proofs.judge.Statement.{statement}
-use Rattle.held.proofs.judge.Tie as tie
+use Rattle.lent.proofs.judge.Statement.{statement}
+use Rattle.lent.proofs.judge.Tie as tie
 
 judge-parts-requires : tie.Need-judge-parts-requires
 judge-parts-requires c κs = search needs
