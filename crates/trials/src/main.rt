@@ -4,6 +4,7 @@
 ghost use Prim.Native.Nat.{_≤_};
 ghost use mathlib.Core.Path.{_≡_};
 ghost use lib.ListN.{length};
+ghost use Rattle.rules.specs.Rules.{slots};
 use forms::Entries;
 use forms::Form;
 use held::Search;
@@ -46,7 +47,7 @@ fn show_quote(quote: Quote) {
 
 // The byte after the number at a place: a row is a line.
 fn end_after(i: usize) -> u8 {
-    if i % replay::NUMBERS_EACH == 7 {
+    if i % replay::NUMBERS_EACH == replay::NUMBERS_EACH - 1 {
         b'\n'
     } else {
         b','
@@ -84,24 +85,24 @@ fn step_through(what: &[u8], kind: u8, opening: Opening, points: &[i32], values:
 
 // The same answers in a mixture of calls; rows that are not written keep their nines.
 fn run(opening: Opening, points: &[i32], values: &[i32])
-    requires { ⌜ length (now values) ≤ 72 ⌝ }
+    requires { ⌜ length (now values) ≤ slots ⌝ }
 {
     let mut kinds = [1u8; rules::SLOTS];
     kinds[1] = 0;
     kinds[3] = 0;
     kinds[4] = 0;
-    let mut rows = [9u32; 576];
+    let mut rows = [9u32; rules::SLOTS * replay::NUMBERS_EACH];
     let told = replay::replay(opening, &kinds, points, values, &mut rows);
     let opened = told.opened;
     show(b"replay ", opened);
     let n = values.len();
-    show_rows(&rows[..8 * n]);
+    show_rows(&rows[..replay::NUMBERS_EACH * n]);
     let search = told.search;
     show(b"after it ", search.report());
 }
 
 fn call_all(opening: Opening, points: &[i32], values: &[i32])
-    requires { ⌜ (length (now points) ≡ length (now values)) × (length (now values) ≤ 72) ⌝ }
+    requires { ⌜ (length (now points) ≡ length (now values)) × (length (now values) ≤ slots) ⌝ }
 {
     show_quote(search::quote(opening));
     show(b"list ", search::report_on(opening, values));

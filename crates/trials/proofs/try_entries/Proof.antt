@@ -6,13 +6,14 @@ use native.Mathlib.Omega.{arith}
 use lib.ListN.{length}
 use lib.Seq.{length-take-le}
 use borrow.Author.Needs.{needs}
+use Rattle.rules.specs.Rules.{slots}
 use Rattle.trials.proofs.try_entries.Statement.{statement}
 use Rattle.trials.proofs.try_entries.Tie as tie
 
-long-points : (s : tie.Start) → length (s .args .entries .points) ≡ 72
+long-points : (s : tie.Start) → length (s .args .entries .points) ≡ slots
 long-points s = search needs
 
-long-values : (s : tie.Start) → length (s .args .entries .values) ≡ 72
+long-values : (s : tie.Start) → length (s .args .entries .values) ≡ slots
 long-values s = search needs
 
 points-hold : (c : tie.Then1) → let e = c .before .before .before .before .args .entries in e .count ≤ length (e .points)
