@@ -36,7 +36,7 @@ abbrev pub offered : Call → Answer
 offered (byValue a) = a
 offered (into a) = a
 
--- what a call answers and the search that it returns or leaves: `held::Search::enter` and `held::enter_into` are proved to do this
+-- what a call answers and the search that it returns or leaves: `held::Search::enter` and `lent::enter_into` are proved to do this
 abbrev pub callOf : Search → Call → Entered
 callOf s (byValue a) = enterOf s (a .point) (a .value)
 callOf s (into a) = enterOf s (a .point) (a .value)
