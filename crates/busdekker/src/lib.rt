@@ -1,28 +1,18 @@
 // The interface for a dryer's controller, exported for C: see include/busdekker.h. Nothing is asked of the caller: what is out of range is
 // refused, and a refusal leaves what was lent as it was.
 ghost use mathlib.Core.Path.{_≡_};
-ghost use Rattle.rules.specs.Rows.{rowOf};
+ghost use Rattle.rules.specs.Rows.{rowOf, quotationOf};
 ghost use Rattle.rules.specs.Search.{reportOf, quoteOf};
 ghost use Rattle.held.specs.Held.{reopenOf, heldReport, enterOf};
 ghost use Rattle.held.specs.Judged.{verdictOf};
 ghost use Rattle.outcomes.specs.Sheet.{sheetOf};
-ghost use Rattle.busdekker.specs.Interface.{version, quotationOf, answeredOf};
+ghost use Rattle.busdekker.specs.Interface.{version, answeredOf};
 ghost use Rattle.busdekker.specs.Inner.{writtenOf};
 use held::Entered;
 use held::Search;
 use rules::Opening;
-use rules::Quote;
+use rules::Quotation;
 use rules::Row;
-
-// A quote as plain numbers: `kind` says whether it is a quote or a refusal, and a number that its kind has not is 0.
-#[repr(C)]
-pub struct Quotation {
-    pub kind: u32,
-    pub t: u32,
-    pub most: u32,
-    pub number: u32,
-    pub place: u32,
-}
 
 // A report as plain numbers, and beside it the search as it then is.
 #[repr(C)]
@@ -41,28 +31,6 @@ pub struct Written {
 
 // ---- by value
 
-// A quote as plain numbers.
-fn quote_row(quote: Quote) -> Quotation
-    ensures { λ r. ⌜ r ≡ quotationOf quote ⌝ }
-{
-    match quote {
-        Quote::Quoted { t, most } => Quotation {
-            kind: 4,
-            t,
-            most,
-            number: 0,
-            place: 0,
-        },
-        Quote::Refused { number, place } => Quotation {
-            kind: 3,
-            t: 0,
-            most: 0,
-            number,
-            place,
-        },
-    }
-}
-
 // A fresh search of an opening in a search's place.
 fn step_open(search: Search, opening: Opening) -> Answered
     ensures { λ r. ⌜ r ≡ answeredOf (reopenOf search opening) ⌝ }
@@ -71,7 +39,7 @@ fn step_open(search: Search, opening: Opening) -> Answered
     let report = e.report;
     let next = e.search;
     Answered {
-        report: printing::row_of(report),
+        report: rows::row_of(report),
         search: next,
     }
 }
@@ -83,7 +51,7 @@ fn step_enter(search: Search, point: i32, value: i32) -> Written
     let v = lent::judge(search, point, value);
     let report = v.report;
     Written {
-        report: printing::row_of(report),
+        report: rows::row_of(report),
         count: v.count,
         at: v.at,
         value: v.value,
@@ -94,7 +62,7 @@ fn step_enter(search: Search, point: i32, value: i32) -> Written
 fn step_ask(search: Search) -> Row
     ensures { λ r. ⌜ r ≡ rowOf (heldReport search) ⌝ }
 {
-    printing::row_of(search.report())
+    rows::row_of(search.report())
 }
 
 // ---- exported
@@ -112,7 +80,7 @@ pub extern "C" fn busdekker_version() -> u32
 pub extern "C" fn busdekker_quote(opening: Opening) -> Quotation
     ensures { λ r. ⌜ r ≡ quotationOf (quoteOf opening) ⌝ }
 {
-    quote_row(search::quote(opening))
+    rows::quotation_of(search::quote(opening))
 }
 
 // Makes the host's search a fresh one of the opening, or refuses that.
@@ -152,7 +120,7 @@ pub extern "C" fn busdekker_entered(held: Search, point: i32, value: i32) -> Ans
     search.slots[at] = kept;
     search.count = v.count;
     Answered {
-        report: printing::row_of(report),
+        report: rows::row_of(report),
         search,
     }
 }
@@ -171,7 +139,7 @@ pub extern "C" fn busdekker_values(opening: Opening, values: &[i32]) -> Row
     ensures { λ r. ⌜ r ≡ rowOf (reportOf opening (now (values .entry))) ⌝ }
 {
     let listed = search::report_on(opening, values);
-    printing::row_of(listed)
+    rows::row_of(listed)
 }
 
 // The outcome of a trial sheet; the place of a refusal is a record.
@@ -181,5 +149,5 @@ pub extern "C" fn busdekker_sheet(text: &[u8]) -> Row
 {
     let outcome = sheet::read_sheet(text);
     let told = outcome.report;
-    printing::row_of(told)
+    rows::row_of(told)
 }

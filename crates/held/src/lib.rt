@@ -2,7 +2,7 @@
 ghost use mathlib.Core.Path.{_≡_};
 ghost use lib.ListN.{length};
 ghost use Rattle.rules.specs.Rules.{slots};
-ghost use Rattle.rules.specs.Search.{answersOf, reportAt, isRefusal};
+ghost use Rattle.rules.specs.Search.{answersOf, reportAt};
 ghost use Rattle.held.specs.Held.{freshOf, blank, reopenOf, openOf, standingOf, heldReport, enterOf};
 ghost use Rattle.held.specs.Judged.{searchOf, verdictOf};
 use rules::Opening;
@@ -58,25 +58,6 @@ fn told(opening: Opening, count: u32, held: &[i32], points: &[i32], values: &[i3
     walk::follow(opening, &held[..n], points, values)
 }
 
-// Whether a report is a refusal.
-pub fn is_refusal(r: Report) -> bool
-    ensures { λ b. ⌜ b ≡ isRefusal r ⌝ }
-{
-    match r {
-        Report::Next { point: _, taken: _ } => false,
-        Report::Stop {
-            lower: _,
-            upper: _,
-            better: _,
-            taken: _,
-        } => false,
-        Report::Refused {
-            number: _,
-            place: _,
-        } => true,
-    }
-}
-
 // What an answer, a point and its value, does to a search of these parts: it is entered, or refused and all stays as it is.
 pub fn judge_parts(
     opening: Opening,
@@ -90,7 +71,7 @@ pub fn judge_parts(
     let points = [point];
     let values = [value];
     let report = told(opening, count, slots, &points, &values);
-    if is_refusal(report) {
+    if refusals::is_refusal(report) {
         return Verdict {
             report,
             count,

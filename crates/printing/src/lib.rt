@@ -1,60 +1,11 @@
-// A report as plain numbers, and as one RFC 4180 record of document 01: the word next, stop or refuse, then its numbers, then CR LF.
+// The report as one RFC 4180 record of document 01: the word next, stop or refuse, then its numbers, then CR LF.
 ghost use mathlib.Core.Path.{_≡_};
 ghost use Prim.Native.Nat.{_≤_};
 ghost use lib.ListN.{length};
-ghost use Rattle.rules.specs.Rows.{rowOf};
 ghost use Rattle.lines.specs.Line.{Holds};
 ghost use Rattle.printing.specs.Printed.{longestRecord, recordWith, recordOf, placed, placedLength};
 use lines::Line;
 use rules::Report;
-use rules::Row;
-
-// ---- plain numbers
-
-// A report as plain numbers.
-pub fn row_of(report: Report) -> Row
-    ensures { λ r. ⌜ r ≡ rowOf report ⌝ }
-{
-    let none = Row {
-        kind: 0,
-        point: 0,
-        lower: 0,
-        upper: 0,
-        better: 0,
-        taken: 0,
-        number: 0,
-        place: 0,
-    };
-    match report {
-        Report::Next { point, taken } => Row {
-            kind: 1,
-            point,
-            taken,
-            ..none
-        },
-        Report::Stop {
-            lower,
-            upper,
-            better,
-            taken,
-        } => Row {
-            kind: 2,
-            lower,
-            upper,
-            better,
-            taken,
-            ..none
-        },
-        Report::Refused { number, place } => Row {
-            kind: 3,
-            number,
-            place,
-            ..none
-        },
-    }
-}
-
-// ---- a record
 
 // The length of the longest record: `stop` and four numbers of ten digits.
 pub const LONGEST_RECORD: usize = lines::LONGEST_LINE;

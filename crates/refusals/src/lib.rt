@@ -1,10 +1,12 @@
 // The table "Refused, by place of check" of document 01, in code: the first refusal of an opening and of an answer, by its number, or 0
-// where none applies.
+// where none applies; and whether a report is a refusal.
 ghost use mathlib.Core.Path.{_≡_};
 ghost use mathlib.Core.Bool.{_||_};
 ghost use Rattle.rules.specs.Rules.{highest};
+ghost use Rattle.rules.specs.Search.{isRefusal};
 ghost use Rattle.rules.specs.Refusals.{openingRefusal, answerRefusal, tooLarge, sameSide, outside};
 use rules::Opening;
+use rules::Report;
 
 // ---- the opening
 
@@ -78,4 +80,25 @@ pub fn answer_refusal(stopped: bool, other: bool, large: bool, same: bool) -> u3
         return rules::VALUE_OUT_OF_RANGE;
     }
     if same { rules::SAME_SIGN } else { 0 }
+}
+
+// ---- a report
+
+// Whether a report is a refusal.
+pub fn is_refusal(r: Report) -> bool
+    ensures { λ b. ⌜ b ≡ isRefusal r ⌝ }
+{
+    match r {
+        Report::Next { point: _, taken: _ } => false,
+        Report::Stop {
+            lower: _,
+            upper: _,
+            better: _,
+            taken: _,
+        } => false,
+        Report::Refused {
+            number: _,
+            place: _,
+        } => true,
+    }
 }

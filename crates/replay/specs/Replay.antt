@@ -1,4 +1,4 @@
--- A run of calls written down in lists, and what `replay` promises of it, in the words of the trial book.
+-- A run of calls written down in lists, and what `replay` promises of it, in the words of the journal.
 -- Assumes nothing.
 use Prim.Native.Nat.{ℕ, zero, suc, _*_, _/_}
 use mathlib.Core.Path.{_≡_}
@@ -52,7 +52,7 @@ writtenOver rs list = rowsOf rs ++ drop (numbersEach * length rs) list
 
 -- ---- what is promised
 
--- An accepted opening: the book's report before the first answer, and the search that holds the book's values after the calls.
+-- An accepted opening: the journal's report before the first answer, and the search that holds the journal's values after the calls.
 -- A refused one makes no fresh search: its first refusal, beside a blank.
 unfoldable pub replayOf : Opening → List Call → Replayed
 replayOf o calls =
@@ -60,7 +60,7 @@ replayOf o calls =
     (record { opened = journalReport o []; search = holding o (journalOf o calls) })
     (record { opened = Report.Refused (openingRefusal o) 0; search = blank })
 
--- An accepted opening: the lent list holds what the book answers to each call in turn. A refused one: no call is made, and the list
+-- An accepted opening: the lent list holds what the journal answers to each call in turn. A refused one: no call is made, and the list
 -- stays as it is.
 unfoldable pub listAfter : Opening → List Call → List ℕ → List ℕ
 listAfter o calls list =

@@ -1,4 +1,4 @@
--- The calls of a run, made to a fresh search of an accepted opening, are the trial book's, by the claim about whole runs; a refused
+-- The calls of a run, made to a fresh search of an accepted opening, are the journal's, by the claim about whole runs; a refused
 -- opening makes none.
 -- Assumes nothing.
 use Prim.Native.Nat.{ℕ}
@@ -24,7 +24,7 @@ use Rattle.replay.specs.Replay.{callsIn, writtenOver, replayOf, listAfte
 use Rattle.replay.specs.Calls.{CallsMade}
 
 module _ (o : Opening) where
-  -- the report of an accepted opening is the book's before the first answer
+  -- the report of an accepted opening is the journal's before the first answer
   first-report : Accepted o → reportOf o [] ≡ journalReport o []
   unfolding reportOf progressOf beginOf reportAt journalReport pointCalled
   first-report a = simp (eq-eqb (openingRefusal o) 0 (a .accepted))

@@ -32,7 +32,7 @@ fn call_at(
 {
     let next = calls::call(kinds[i], search, points[i], values[i]);
     let report = next.report;
-    calls::put_row(rows, NUMBERS_EACH * i, printing::row_of(report));
+    calls::put_row(rows, NUMBERS_EACH * i, rows::row_of(report));
     next.search
 }
 
@@ -91,7 +91,7 @@ pub fn replay(
     let begun = Search::fresh(opening);
     let opened = begun.report;
     let fresh = begun.search;
-    if held::is_refusal(opened) {
+    if refusals::is_refusal(opened) {
         return Replayed {
             opened,
             search: fresh,

@@ -2,15 +2,18 @@
 -- Assumes nothing.
 use mathlib.Core.Path.{_≡_, refl}
 use mathlib.Core.Bool.{true}
+use mathlib.Core.List.{[], _∷_}
 use lib.IntN.{ℤ, pos, negℤ}
 use Rattle.integers.specs.Digits.{digits, halvings}
 use Rattle.rules.specs.declared.Opening.{Opening}
 use Rattle.rules.specs.declared.Sample.{Sample}
 use Rattle.rules.specs.declared.Fraction.{Fraction}
+use Rattle.rules.specs.declared.Report.{Report}
 use Rattle.rules.specs.declared.Quote.{Quote}
 use Rattle.rules.specs.Rules.{methodOf, forwardOf, displacementOf, atBetter, noEstimate, linearOf, crossOf, rationalOf, streakOf}
 use Rattle.rules.specs.Refusals.{openingRefusal}
 use Rattle.rules.specs.Search.{turnsOf, quoteOf}
+use Rattle.rules.specs.Rows.{rowOf, rowNumbers, quotationOf}
 
 abbrev over : ℤ → ℤ → Fraction
 over num den = record { num = num; den = den }
@@ -122,3 +125,20 @@ within-tolerance = refl
 just-beyond : turnsOf 5 11 ≡ 1
 unfolding turnsOf digits halvings
 just-beyond = refl
+
+-- ---- reports and quotes as plain numbers
+
+next-row : rowNumbers (rowOf (Report.Next 33 2)) ≡ 1 ∷ 33 ∷ 0 ∷ 0 ∷ 0 ∷ 2 ∷ 0 ∷ 0 ∷ []
+next-row = refl
+
+stop-row : rowNumbers (rowOf (Report.Stop 41 43 42 5)) ≡ 2 ∷ 0 ∷ 41 ∷ 43 ∷ 42 ∷ 5 ∷ 0 ∷ 0 ∷ []
+stop-row = refl
+
+refused-row : rowNumbers (rowOf (Report.Refused 6 4)) ≡ 3 ∷ 0 ∷ 0 ∷ 0 ∷ 0 ∷ 0 ∷ 6 ∷ 4 ∷ []
+refused-row = refl
+
+quotation : quotationOf (Quote.Quoted 14 58) ≡ record { kind = 4; t = 14; most = 58; number = 0; place = 0 }
+quotation = refl
+
+refused-quotation : quotationOf (Quote.Refused 4 0) ≡ record { kind = 3; t = 0; most = 0; number = 4; place = 0 }
+refused-quotation = refl

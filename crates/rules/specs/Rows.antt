@@ -1,10 +1,12 @@
--- A report as plain numbers, for C and for lists of numbers: its kind, then each number under its own name, and 0 for those that the
--- kind has not.
+-- A report and a quote as plain numbers, for C and for lists of numbers: the kind, then each number under its own name, and 0 for those
+-- that the kind has not.
 -- Assumes nothing.
 use Prim.Native.Nat.{ℕ}
 use mathlib.Core.List.{List, [], _∷_}
 use Rattle.rules.specs.declared.Report.{Report}
 use Rattle.rules.specs.declared.Row.{Row}
+use Rattle.rules.specs.declared.Quote.{Quote}
+use Rattle.rules.specs.declared.Quotation.{Quotation}
 
 -- ---- the kinds
 
@@ -17,7 +19,11 @@ stopKind = 2
 abbrev pub refusedKind : ℕ
 refusedKind = 3
 
--- ---- the numbers
+-- of a quote, which is none of a report's
+abbrev pub quotedKind : ℕ
+quotedKind = 4
+
+-- ---- the numbers of a report
 
 abbrev pub rowOf : Report → Row
 rowOf (Report.Next point taken) =
@@ -31,3 +37,9 @@ rowOf (Report.Refused number place) =
 abbrev pub rowNumbers : Row → List ℕ
 rowNumbers w =
     w .kind ∷ w .point ∷ w .lower ∷ w .upper ∷ w .better ∷ w .taken ∷ w .number ∷ w .place ∷ []
+
+-- ---- the numbers of a quote: t and the most answers, or a refusal
+
+abbrev pub quotationOf : Quote → Quotation
+quotationOf (Quote.Quoted t most) = record { kind = quotedKind; t = t; most = most; number = 0; place = 0 }
+quotationOf (Quote.Refused number place) = record { kind = refusedKind; t = 0; most = 0; number = number; place = place }

@@ -111,6 +111,15 @@ pub enum Report {
     },
 }
 
+// The kinds of reports and quotes as plain numbers: a next point, the stop, a refusal, a quote.
+pub const NEXT_KIND: u32 = 1;
+
+pub const STOP_KIND: u32 = 2;
+
+pub const REFUSED_KIND: u32 = 3;
+
+pub const QUOTED_KIND: u32 = 4;
+
 // A report as plain numbers, where no enum can stand: `kind` says which of the three it is, and a number that its kind has not is 0.
 #[repr(C)]
 pub struct Row {
@@ -128,4 +137,14 @@ pub struct Row {
 pub enum Quote {
     Quoted { t: u32, most: u32 },
     Refused { number: u32, place: u32 },
+}
+
+// A quote as plain numbers: `kind` says whether it is a quote or a refusal, and a number that its kind has not is 0.
+#[repr(C)]
+pub struct Quotation {
+    pub kind: u32,
+    pub t: u32,
+    pub most: u32,
+    pub number: u32,
+    pub place: u32,
 }

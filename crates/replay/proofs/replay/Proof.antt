@@ -1,5 +1,5 @@
 -- `replay::replay` meets its contract: what a refused opening opens as is what is answered; for an accepted one the claim about whole
--- runs says that the calls made are the trial book's.
+-- runs says that the calls made are the journal's.
 -- Assumes nothing.
 use borrow.Author.Needs.{needs}
 use Rattle.replay.specs.ReplayLaws.{replays-refused, replays-accepted}

@@ -1,8 +1,8 @@
--- `held::is_refusal` meets its contract: each arm says the definition's case.
+-- `refusals::is_refusal` meets its contract: each arm says the definition's case.
 -- Assumes nothing.
 use borrow.Author.Needs.{needs}
-use Rattle.held.proofs.is_refusal.Statement.{statement}
-use Rattle.held.proofs.is_refusal.Tie as tie
+use Rattle.refusals.proofs.is_refusal.Statement.{statement}
+use Rattle.refusals.proofs.is_refusal.Tie as tie
 
 enum-told : tie.Need-enum-told
 enum-told c = search needs

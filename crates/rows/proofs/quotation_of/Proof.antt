@@ -1,10 +1,10 @@
--- `busdekker::quote_row` meets its contract: each arm says the definition's case.
+-- `rows::quotation_of` meets its contract: each arm says the definition's case.
 -- Assumes nothing.
 use mathlib.Core.Path.{sym, ap}
-use Rattle.busdekker.specs.Interface.{quotationOf}
+use Rattle.rules.specs.Rows.{quotationOf}
 use borrow.Author.Needs.{needs}
-use Rattle.busdekker.proofs.quote_row.Statement.{statement}
-use Rattle.busdekker.proofs.quote_row.Tie as tie
+use Rattle.rows.proofs.quotation_of.Statement.{statement}
+use Rattle.rows.proofs.quotation_of.Tie as tie
 
 enum-known-quote : tie.Need-enum-known-quote
 enum-known-quote c = search needs
@@ -18,5 +18,5 @@ returns c = sym (ap quotationOf (c .before .quote .given .1))
 returns-2 : tie.Need-returns-2
 returns-2 c = sym (ap quotationOf (c .before .quote2 .given .1))
 
-pub quote-row-spec : {M : Type 1} → statement M
-quote-row-spec = tie.close (tie.spec enum-known-quote enum-known-quote-2 returns returns-2)
+pub quotation-of-spec : {M : Type 1} → statement M
+quotation-of-spec = tie.close (tie.spec enum-known-quote enum-known-quote-2 returns returns-2)

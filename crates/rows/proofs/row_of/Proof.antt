@@ -1,10 +1,10 @@
--- `printing::row_of` meets its contract: each arm says the definition's case.
+-- `rows::row_of` meets its contract: each arm says the definition's case.
 -- Assumes nothing.
 use mathlib.Core.Path.{sym, ap}
 use borrow.Author.Needs.{needs}
 use Rattle.rules.specs.Rows.{rowOf}
-use Rattle.printing.proofs.row_of.Statement.{statement}
-use Rattle.printing.proofs.row_of.Tie as tie
+use Rattle.rows.proofs.row_of.Statement.{statement}
+use Rattle.rows.proofs.row_of.Tie as tie
 
 enum-known-report : tie.Need-enum-known-report
 enum-known-report c = search needs
