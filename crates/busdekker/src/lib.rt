@@ -112,11 +112,11 @@ pub extern "C" fn busdekker_enter(search: &mut Search, point: i32, value: i32) -
 pub extern "C" fn busdekker_entered(held: Search, point: i32, value: i32) -> Answered
     ensures { λ r. ⌜ r ≡ answeredOf (enterOf held point value) ⌝ }
 {
-    let v = held::judge_parts(held.opening, held.count, &held.slots, point, value);
+    let mut search = held;
+    let v = held::judge_parts(search.opening, search.count, &search.slots, point, value);
     let report = v.report;
     let at = v.at;
     let kept = v.value;
-    let mut search = held;
     search.slots[at] = kept;
     search.count = v.count;
     Answered {

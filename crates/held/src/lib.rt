@@ -152,11 +152,11 @@ impl Search {
     pub fn enter(self, point: i32, value: i32) -> Entered
         ensures { λ r. ⌜ r ≡ enterOf self point value ⌝ }
     {
-        let v = judge_parts(self.opening, self.count, &self.slots, point, value);
+        let mut next = self;
+        let v = judge_parts(next.opening, next.count, &next.slots, point, value);
         let report = v.report;
         let at = v.at;
         let kept = v.value;
-        let mut next = self;
         next.slots[at] = kept;
         next.count = v.count;
         Entered {

@@ -56,16 +56,10 @@ fn settle(e: Entries, report: Report) -> Entered
     requires { ⌜ (Below (e .count) report) × (e .count ≤ slots) ⌝ }
     ensures { λ r. ⌜ r ≡ settledBy e report ⌝ }
 {
-    match report {
-        Report::Next { point: _, taken: _ } => keep(e, report),
-        Report::Stop {
-            lower: _,
-            upper: _,
-            better: _,
-            taken: _,
-        } => keep(e, report),
-        Report::Refused { number, place } => refuse(number, place + 2),
+    if let Report::Refused { number, place } = report {
+        return refuse(number, place + 2);
     }
+    keep(e, report)
 }
 
 // The outcome of a text whose records are well formed.

@@ -18,10 +18,10 @@ use Rattle.busdekker.proofs.busdekker_entered.Tie as tie
 abbrev start-of : tie.After-judge-parts → tie.Start
 start-of c = c .before .before .before .before
 
-long : (s : tie.Start) → length (s .args .t1 .slots) ≡ slots
+long : (s : tie.Start) → length (s .args .held .slots) ≡ slots
 long s = search needs
 
-stored : (c : tie.After-judge-parts) → Stores (start-of c .args .t1) (start-of c .args .point) (start-of c .args .value) (c .judge-parts .result)
+stored : (c : tie.After-judge-parts) → Stores (start-of c .args .held) (start-of c .args .point) (start-of c .args .value) (c .judge-parts .result)
 stored c = let s = start-of c in stores _ _ _ _ (long s) (rw (toZ-ofZ (s .fits .point), toZ-ofZ (s .fits .value)) at (c .judge-parts .ensures))
 
 judge-parts-requires : tie.Need-judge-parts-requires

@@ -1,23 +1,25 @@
 -- `sheet::settle` meets its contract: by the report. A refusal has the index of one of the answers.
 -- Assumes nothing.
-use mathlib.Core.Path.{subst, _∙_}
+use mathlib.Core.Path.{_≡_, refl, subst, _∙_}
+use mathlib.Core.List.{[], _∷_}
+use mathlib.Core.Logic.{inl, inr}
 use native.Mathlib.Omega.{arith}
-use Rattle.outcomes.specs.SheetLaws.{Below}
+use types.Run.{OneOf}
+use denote.Enum.Declared.{tagOf}
+use Rattle.rules.specs.declared.Report.{Report}
+use Rattle.rules.proofs.Report.{the-type}
+use Rattle.forms.specs.declared.Entries.{Entries}
+use Rattle.outcomes.specs.SheetLaws.{keptBy, settledBy, Below}
 use borrow.Author.Needs.{needs}
 use Rattle.sheet.proofs.settle.Statement.{statement}
 use Rattle.sheet.proofs.settle.Tie as tie
 
-enum-told : tie.Need-enum-told
-enum-told c = search needs
-
-keep-requires : tie.Need-keep-requires
-keep-requires c κs = search needs
-
-enum-told-2 : tie.Need-enum-told-2
-enum-told-2 c = search needs
-
-keep-requires-2 : tie.Need-keep-requires-2
-keep-requires-2 c κs = search needs
+-- a report that is a next point or a stop
+going-on : (e : Entries) (r : Report) → OneOf (0 ∷ 1 ∷ []) (tagOf the-type r) → keptBy e r ≡ settledBy e r
+going-on e (Report.Next point taken) t = refl
+going-on e (Report.Stop lower upper better taken) t = refl
+going-on e (Report.Refused n i) (inl t) = absurd (omega arith)
+going-on e (Report.Refused n i) (inr t) = absurd (omega arith)
 
 enum-known-report : tie.Need-enum-known-report
 enum-known-report c = search needs
@@ -32,25 +34,15 @@ refuse-requires : tie.Need-refuse-requires
 refuse-requires c κs = search needs
 
 returns : tie.Need-returns
-returns c = rw (c .before .enum-told .given .1) (c .keep .ensures ∙ rw (c .before .enum-told .given .1))
+returns c = rw (c .before .before .report .given .1) (c .refuse .ensures)
+
+keep-requires : tie.Need-keep-requires
+keep-requires c κs = search needs
 
 returns-2 : tie.Need-returns-2
-returns-2 c = rw (c .before .enum-told2 .given .1) (c .keep2 .ensures ∙ rw (c .before .enum-told2 .given .1))
-
-returns-3 : tie.Need-returns-3
-returns-3 c = rw (c .before .before .report .given .1) (c .refuse .ensures)
+returns-2 c = c .keep .ensures ∙ going-on _ _ (c .before .match .keys2)
 
 pub settle-spec : {M : Type 1} → statement M
 settle-spec =
     tie.close
-    (tie.spec
-    enum-told
-    keep-requires
-    enum-told-2
-    keep-requires-2
-    enum-known-report
-    add-refuse
-    refuse-requires
-    returns
-    returns-2
-    returns-3)
+    (tie.spec enum-known-report add-refuse refuse-requires returns keep-requires returns-2)

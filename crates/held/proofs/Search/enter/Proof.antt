@@ -19,13 +19,13 @@ use Rattle.held.proofs.Search.enter.Tie as tie
 abbrev withReport : Report → Search → Entered
 withReport r h = record { report = r; search = h }
 
-long : (s : tie.Start) → length (s .args .t1 .slots) ≡ slots
+long : (s : tie.Start) → length (s .args .self .slots) ≡ slots
 long s = search needs
 
 abbrev start-of : tie.After-judge-parts → tie.Start
 start-of c = c .before .before .before .before
 
-stored : (c : tie.After-judge-parts) → Stores (start-of c .args .t1) (start-of c .args .point) (start-of c .args .value) (c .judge-parts .result)
+stored : (c : tie.After-judge-parts) → Stores (start-of c .args .self) (start-of c .args .point) (start-of c .args .value) (c .judge-parts .result)
 stored c = let s = start-of c in stores _ _ _ _ (long s) (rw (read (s .fits .point), read (s .fits .value)) at (c .judge-parts .ensures))
 
 judge-parts-requires : tie.Need-judge-parts-requires
@@ -39,7 +39,7 @@ element-set-from-kept c = stored (c .before) .room
 
 returns : tie.Need-returns
 returns c =
-    let s = start-of (c .before) .args .t1 in
+    let s = start-of (c .before) .args .self in
     let v = c .before .judge-parts .result in
     let f : SFits w32 (v .value) = search needs in
     ap (λ (z : ℤ). withReport (v .report) (storedBy s (record { report = v .report; count = v .count; at = v .at; value = z }))) (read f)
