@@ -8,7 +8,7 @@ ghost use Rattle.rules.specs.Search.{answersOf, reportAt};
 ghost use Rattle.rules.specs.declared.Progress.the-variants.{Begun};
 ghost use Rattle.printing.specs.Printed.{recordOf, placed, placedLength};
 ghost use Rattle.outcomes.specs.Sheet.{refusedAt, outcomeOf, sheetOf};
-ghost use Rattle.outcomes.specs.SheetLaws.{keptBy, settledBy, Below};
+ghost use Rattle.outcomes.specs.SheetLaws.{settledBy, Below};
 use forms::Entries;
 use forms::Form;
 use held::Entered;
@@ -35,10 +35,14 @@ fn told<'a>(opening: Opening, count: u32, points: &'a [i32], values: &'a [i32]) 
     walk::follow(opening, &values[..0], &points[..n], &values[..n])
 }
 
-// A report, and beside it the held search that the sheet is.
-fn keep(e: Entries, report: Report) -> Entered
-    ensures { λ r. ⌜ r ≡ keptBy e report ⌝ }
+// The outcome, by the report on the answers: a refusal, or the report beside the held search that the sheet is.
+fn settle(e: Entries, report: Report) -> Entered
+    requires { ⌜ (Below (e .count) report) × (e .count ≤ slots) ⌝ }
+    ensures { λ r. ⌜ r ≡ settledBy e report ⌝ }
 {
+    if let Report::Refused { number, place } = report {
+        return refuse(number, place + 2);
+    }
     let opening = e.opening;
     let slots = e.values;
     Entered {
@@ -49,17 +53,6 @@ fn keep(e: Entries, report: Report) -> Entered
             slots,
         },
     }
-}
-
-// The outcome, by the report on the answers.
-fn settle(e: Entries, report: Report) -> Entered
-    requires { ⌜ (Below (e .count) report) × (e .count ≤ slots) ⌝ }
-    ensures { λ r. ⌜ r ≡ settledBy e report ⌝ }
-{
-    if let Report::Refused { number, place } = report {
-        return refuse(number, place + 2);
-    }
-    keep(e, report)
 }
 
 // The outcome of a text whose records are well formed.

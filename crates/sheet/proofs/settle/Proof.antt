@@ -36,13 +36,10 @@ refuse-requires c κs = search needs
 returns : tie.Need-returns
 returns c = rw (c .before .before .report .given .1) (c .refuse .ensures)
 
-keep-requires : tie.Need-keep-requires
-keep-requires c κs = search needs
-
 returns-2 : tie.Need-returns-2
-returns-2 c = c .keep .ensures ∙ going-on _ _ (c .before .match .keys2)
+returns-2 c = going-on _ _ (c .before .before .match .keys2)
 
 pub settle-spec : {M : Type 1} → statement M
 settle-spec =
     tie.close
-    (tie.spec enum-known-report add-refuse refuse-requires returns keep-requires returns-2)
+    (tie.spec enum-known-report add-refuse refuse-requires returns returns-2)
