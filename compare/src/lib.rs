@@ -2,12 +2,17 @@
 
 #![deny(unsafe_code)]
 
+pub mod algol;
 pub mod beam;
 pub mod cases;
+pub mod counts;
+pub mod curves;
 #[allow(unsafe_code)]
 pub mod ffi;
 pub mod model;
+pub mod picture;
 pub mod plain;
 pub mod rng;
 pub mod sheets;
+pub mod tables;
 pub mod types;
