@@ -51,8 +51,8 @@ fn function(
     }
 }
 
-/// Group I: simple zeros. In the second, the text has exp(−nx) twice; with exp(−n) in the first place, as this function stands elsewhere,
-/// all eight figures of Table I come out, and with the text's none of R's first three.
+/// Group I: simple zeros. In the second function the text has exp(−nx) twice; with exp(−n) in the first place, as it stands here, all eight
+/// of its figures in Table I come out, and with the text's one of them.
 fn simple_zeros() -> Vec<Function> {
     let unit = (0.0, 1.0);
     let mut all = vec![function(0, "1".into(), (0.0, 1.5), |x| x.sin() - 0.5)];

@@ -53,6 +53,25 @@ fn bar(rows: &[Row], tolerance: i32, group: usize, method: usize, base: f64, uni
         )
 }
 
+/// A group's bars and its name, above a base line.
+fn bars(rows: &[Row], tolerance: i32, group: usize, base: f64, unit: f64) -> String {
+    let drawn: String = (0..METHODS.len())
+        .map(|method| bar(rows, tolerance, group, method, base, unit))
+        .collect();
+    let middle = f64::from(LEFT + group as u32 * GROUP + 3 * (BAR + 3));
+    let name = match GROUPS[group] {
+        "dryer" => "a made-up dryer".to_string(),
+        of_paper => format!("group {of_paper}"),
+    };
+    drawn
+        + &text(
+            middle,
+            base + 16.0,
+            "font-size=\"12\" text-anchor=\"middle\"",
+            &name,
+        )
+}
+
 /// The panel of one tolerance.
 fn panel(rows: &[Row], place: usize, tolerance: i32) -> String {
     let base = f64::from(TOP) + f64::from(PANEL) * place as f64 + TALL + 20.0;
@@ -61,34 +80,15 @@ fn panel(rows: &[Row], place: usize, tolerance: i32) -> String {
         .map(|(group, method)| summary(rows, group, tolerance, |row| to_hold(row, method)).mean)
         .fold(1.0, f64::max);
     let unit = (TALL - 30.0) / longest;
-    let most = |method| counts::most(method, tolerance);
+    let [m, r, halving] = [0, 1, 2].map(|method| counts::most(method, tolerance));
     let mut drawn = text(
         f64::from(LEFT),
         base - TALL,
         "font-size=\"14\" font-weight=\"bold\"",
-        &format!(
-            "Tolerance {tolerance}: never more than {} by M, {} by R, {} by halving",
-            most(0),
-            most(1),
-            most(2)
-        ),
+        &format!("Tolerance {tolerance}: never more than {m} by M, {r} by R, {halving} by halving"),
     );
-    for (group, name) in GROUPS.iter().enumerate() {
-        for method in 0..METHODS.len() {
-            drawn += &bar(rows, tolerance, group, method, base, unit);
-        }
-        let label = if group < 4 {
-            format!("group {name}")
-        } else {
-            "a made-up dryer".to_string()
-        };
-        let middle = f64::from(LEFT + group as u32 * GROUP + 3 * (BAR + 3));
-        drawn += &text(
-            middle,
-            base + 16.0,
-            "font-size=\"12\" text-anchor=\"middle\"",
-            &label,
-        );
+    for group in 0..GROUPS.len() {
+        drawn += &bars(rows, tolerance, group, base, unit);
     }
     drawn += &format!(
         "<line x1=\"{LEFT}\" y1=\"{base:.1}\" x2=\"{}\" y2=\"{base:.1}\" stroke=\"#000000\"/>\n",

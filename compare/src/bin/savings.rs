@@ -162,48 +162,52 @@ fn shown(rows: &[Row]) -> Outcome<(String, String, String)> {
     Ok((document, picture::drawn(rows), format!("{groups}\n{paper}")))
 }
 
-fn run(words: &[String]) -> Outcome<String> {
+/// Puts the tables and the picture into their places, and gives the tables.
+fn draw(curves: &[Curve]) -> Outcome<String> {
+    let (document, picture, tables) = shown(&checked_rows(curves)?)?;
+    write(&of_repository(TABLES), &document)?;
+    write(&of_repository(PICTURE), &picture)?;
+    Ok(tables)
+}
+
+/// Compares what is kept, the tables and the picture with what is counted now.
+fn check(curves: &[Curve]) -> Outcome<String> {
+    let rows = checked_rows(curves)?;
+    let (document, picture, _) = shown(&rows)?;
+    for (name, text) in [(TABLES, document), (PICTURE, picture)] {
+        if read(&of_repository(name))? != text {
+            return Err(format!("{name} does not show {KEPT}; run savings"));
+        }
+    }
+    Ok(format!(
+        "savings: {} curves, {} figures as kept\n",
+        curves.len(),
+        HERE * rows.len()
+    ))
+}
+
+/// Keeps the figures of the settings tried.
+fn keep(curves: &[Curve], file: &str, words: &str) -> Outcome<String> {
+    let tried = read_tried(&read(Path::new(file))?)
+        .ok_or_else(|| format!("{file} is no list of settings tried"))?;
+    write(&of_repository(KEPT), &kept(curves, &tried, words)?)?;
+    Ok(String::new())
+}
+
+fn run(words: &[&str]) -> Outcome<String> {
     let curves = curves::all();
-    let words: Vec<&str> = words.iter().map(String::as_str).collect();
-    match words.as_slice() {
-        [] => {
-            let (document, picture, tables) = shown(&checked_rows(&curves)?)?;
-            write(&of_repository(TABLES), &document)?;
-            write(&of_repository(PICTURE), &picture)?;
-            Ok(tables)
-        }
-        ["--check"] => {
-            let rows = checked_rows(&curves)?;
-            let (document, picture, _) = shown(&rows)?;
-            if read(&of_repository(TABLES))? != document {
-                return Err(format!(
-                    "{TABLES} does not have the tables of {KEPT}; run savings"
-                ));
-            }
-            if read(&of_repository(PICTURE))? != picture {
-                return Err(format!(
-                    "{PICTURE} is not the picture of {KEPT}; run savings"
-                ));
-            }
-            Ok(format!(
-                "savings: {} curves, {} figures as kept\n",
-                curves.len(),
-                HERE * rows.len()
-            ))
-        }
+    match words {
+        [] => draw(&curves),
+        ["--check"] => check(&curves),
         ["--values", file] => write(Path::new(file), &values(&curves)).map(|()| String::new()),
-        ["--keep", file, words] => {
-            let tried = read_tried(&read(Path::new(file))?)
-                .ok_or(format!("{file} is no list of settings tried"))?;
-            write(&of_repository(KEPT), &kept(&curves, &tried, words)?)?;
-            Ok(String::new())
-        }
+        ["--keep", file, words] => keep(&curves, file, words),
         _ => Err(USAGE.to_string()),
     }
 }
 
 fn main() -> ExitCode {
     let words: Vec<String> = env::args().skip(1).collect();
+    let words: Vec<&str> = words.iter().map(String::as_str).collect();
     match run(&words) {
         Ok(text) => {
             print!("{text}");
