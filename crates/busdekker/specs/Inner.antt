@@ -1,7 +1,7 @@
 -- What the inner steps tell. No exported function's contract cites this.
 -- Assumes nothing.
 use Rattle.rules.specs.Rows.{rowOf}
-use Rattle.held.specs.declared.Verdict.{Verdict}
+use Rattle.verdicts.specs.declared.Verdict.{Verdict}
 use Rattle.busdekker.specs.declared.Written.{Written}
 
 -- what an answer does to a search, with the report as plain numbers

@@ -4,7 +4,7 @@ ghost use mathlib.Core.Path.{_≡_};
 ghost use Rattle.rules.specs.Rows.{rowOf, quotationOf};
 ghost use Rattle.rules.specs.Search.{reportOf, quoteOf};
 ghost use Rattle.held.specs.Held.{reopenOf, heldReport, enterOf};
-ghost use Rattle.held.specs.Judged.{verdictOf};
+ghost use Rattle.verdicts.specs.Judged.{verdictOf};
 ghost use Rattle.outcomes.specs.Sheet.{sheetOf};
 ghost use Rattle.busdekker.specs.Interface.{version, answeredOf};
 ghost use Rattle.busdekker.specs.Inner.{writtenOf};
@@ -46,7 +46,7 @@ fn step_open(search: Search, opening: Opening) -> Answered
 
 // What an answer does to a search.
 fn step_enter(search: Search, point: i32, value: i32) -> Written
-    ensures { λ r. ⌜ r ≡ writtenOf (verdictOf search point value) ⌝ }
+    ensures { λ r. ⌜ r ≡ writtenOf (verdictOf (search .opening) (search .count) (search .slots) point value) ⌝ }
 {
     let v = lent::judge(search, point, value);
     let report = v.report;
@@ -113,7 +113,7 @@ pub extern "C" fn busdekker_entered(held: Search, point: i32, value: i32) -> Ans
     ensures { λ r. ⌜ r ≡ answeredOf (enterOf held point value) ⌝ }
 {
     let mut search = held;
-    let v = held::judge_parts(search.opening, search.count, &search.slots, point, value);
+    let v = verdicts::judge_parts(search.opening, search.count, &search.slots, point, value);
     let report = v.report;
     let at = v.at;
     let kept = v.value;

@@ -1,9 +1,6 @@
 // The fields of a record, each byte looked at once: two numbers at a place of a text, and the comma or the CR LF after each.
 ghost use mathlib.Core.Path.{_≡_};
-ghost use Prim.Native.Nat.{_≤_};
-ghost use lib.ListN.{getD};
-ghost use Rattle.forms.specs.Number.{isDigit, signed};
-ghost use Rattle.scanning.specs.Scan.{digitsAt, numberAt, beforeComma, beforeEnd, beforeNext, pairAt};
+ghost use Rattle.scanning.specs.Scan.{beforeComma, beforeEnd, beforeNext, pairAt};
 use scanning::NumberScan;
 use scanning::PairScan;
 
@@ -13,69 +10,7 @@ const LF: u8 = b'\n';
 
 const COMMA: u8 = b',';
 
-const MINUS: u8 = b'-';
-
-// ---- bytes
-
-// The byte at a place; after the last one 0, which is none of those that a record is made of.
-fn byte_at(s: &[u8], at: usize) -> u8
-    ensures { λ r. ⌜ r ≡ getD (now (s .entry)) at 0 ⌝ }
-{
-    if at < s.len() { s[at] } else { 0 }
-}
-
-// A digit stands at a place.
-fn digit_at(s: &[u8], at: usize) -> bool
-    ensures { λ r. ⌜ r ≡ isDigit (getD (now (s .entry)) at 0) ⌝ }
-{
-    let b = byte_at(s, at);
-    if b < b'0' { false } else { b <= b'9' }
-}
-
-// ---- numbers
-
-// n, or its negation.
-fn with_sign(negative: bool, n: u32) -> i32
-    requires { ⌜ n ≤ 99999 ⌝ }
-    ensures { λ r. ⌜ r ≡ signed negative n ⌝ }
-{
-    if negative { 0 - (n as i32) } else { n as i32 }
-}
-
-// 1 to 5 digits, and no sixth, with a sign.
-fn scan_digits(s: &[u8], negative: bool, from: usize) -> NumberScan
-    ensures { λ r. ⌜ r ≡ digitsAt negative (now (s .entry)) from ⌝ }
-{
-    let mut v: u32 = 0;
-    let mut digits: u32 = 0;
-    let mut i = from;
-    while digit_at(s, i) {
-        if digits == 5 {
-            return NumberScan::Malformed;
-        }
-        v = v * 10 + (s[i] - b'0') as u32;
-        digits += 1;
-        i += 1;
-    }
-    if digits == 0 {
-        return NumberScan::Malformed;
-    }
-    NumberScan::Is {
-        value: with_sign(negative, v),
-        next: i,
-    }
-}
-
-// An optional minus, and digits.
-fn scan_number(s: &[u8], from: usize) -> NumberScan
-    ensures { λ r. ⌜ r ≡ numberAt (now (s .entry)) from ⌝ }
-{
-    if byte_at(s, from) == MINUS {
-        scan_digits(s, true, from + 1)
-    } else {
-        scan_digits(s, false, from)
-    }
-}
+// ---- what follows a number
 
 // A number that a comma follows: on past the comma.
 fn before_comma(s: &[u8], n: NumberScan) -> NumberScan
@@ -84,7 +19,7 @@ fn before_comma(s: &[u8], n: NumberScan) -> NumberScan
     let NumberScan::Is { value, next } = n else {
         return NumberScan::Malformed;
     };
-    if byte_at(s, next) == COMMA {
+    if numbers::byte_at(s, next) == COMMA {
         NumberScan::Is {
             value,
             next: next + 1,
@@ -101,8 +36,8 @@ fn before_end(s: &[u8], n: NumberScan) -> NumberScan
     let NumberScan::Is { value, next } = n else {
         return NumberScan::Malformed;
     };
-    if byte_at(s, next) == CR {
-        if byte_at(s, next + 1) == LF {
+    if numbers::byte_at(s, next) == CR {
+        if numbers::byte_at(s, next + 1) == LF {
             return NumberScan::Is {
                 value,
                 next: next + 2,
@@ -132,14 +67,14 @@ pub fn scan_pair(s: &[u8], from: usize, last: bool) -> PairScan
     let NumberScan::Is {
         value: first,
         next: middle,
-    } = before_comma(s, scan_number(s, from))
+    } = before_comma(s, numbers::scan_number(s, from))
     else {
         return PairScan::Malformed;
     };
     let NumberScan::Is {
         value: second,
         next,
-    } = before_next(s, scan_number(s, middle), last)
+    } = before_next(s, numbers::scan_number(s, middle), last)
     else {
         return PairScan::Malformed;
     };

@@ -1,7 +1,7 @@
 -- Held searches: a search that keeps its own list. Document 01, "Held searches and sheets", and the rows "Held search" and "Each
 -- answer in turn" of its table.
 -- Assumes nothing.
-use Prim.Native.Nat.{ℕ, _+_}
+use Prim.Native.Nat.{_+_}
 use mathlib.Core.Bool.{cond}
 use mathlib.Core.List.{List, []}
 use lib.Dec.{ltb, eqb}
@@ -11,14 +11,10 @@ use Rattle.rules.specs.declared.Opening.{Opening}
 use Rattle.rules.specs.declared.Progress.{Progress}
 use Rattle.rules.specs.declared.Report.{Report}
 use Rattle.rules.specs.Rules.{slots}
-use Rattle.rules.specs.Refusals.{openingRefusal}
+use Rattle.rules.specs.Refusals.{openingRefusal, countAbove}
 use Rattle.rules.specs.Search.{isRefused, otherAt, offerOf, progressOf, reportAt, reportOf}
 use Rattle.held.specs.declared.Search.{Search}
 use Rattle.held.specs.declared.Entered.{Entered}
-
--- a held search whose count is above the slots
-abbrev pub countAbove : ℕ
-countAbove = 9
 
 -- ---- fresh searches
 

@@ -1,10 +1,6 @@
 // Held searches: a search that keeps its own list of values.
 ghost use mathlib.Core.Path.{_≡_};
-ghost use lib.ListN.{length};
-ghost use Rattle.rules.specs.Rules.{slots};
-ghost use Rattle.rules.specs.Search.{answersOf, reportAt};
-ghost use Rattle.held.specs.Held.{freshOf, blank, reopenOf, openOf, standingOf, heldReport, enterOf};
-ghost use Rattle.held.specs.Judged.{searchOf, verdictOf};
+ghost use Rattle.held.specs.Held.{freshOf, blank, reopenOf, openOf, heldReport, enterOf};
 use rules::Opening;
 use rules::Report;
 
@@ -22,14 +18,6 @@ pub struct Entered {
     pub search: Search,
 }
 
-// What an answer does to a search: the report, the count that it then has, and the value that a slot then has.
-pub struct Verdict {
-    pub report: Report,
-    pub count: u32,
-    pub at: usize,
-    pub value: i32,
-}
-
 // A search of an opening with no answer.
 fn unanswered(opening: Opening) -> Search
     ensures { λ r. ⌜ r ≡ freshOf opening ⌝ }
@@ -38,52 +26,6 @@ fn unanswered(opening: Opening) -> Search
         opening,
         count: 0,
         slots: [0; rules::SLOTS],
-    }
-}
-
-// The report on a held search's parts, with further answers after the values held: the count is checked, then the opening, then the
-// values and the answers.
-fn told(opening: Opening, count: u32, held: &[i32], points: &[i32], values: &[i32]) -> Report
-    requires { ⌜ (length (now held) ≡ slots) × (length (now points) ≡ length (now values)) ⌝ }
-    ensures { λ r. ⌜ r ≡ reportAt opening
-        (answersOf opening (standingOf (searchOf opening count (now (held .entry)))) (now (points .entry)) (now (values .entry))) ⌝ }
-{
-    if rules::SLOTS < count as usize {
-        return Report::Refused {
-            number: rules::COUNT_ABOVE,
-            place: 0,
-        };
-    }
-    let n = count as usize;
-    walk::follow(opening, &held[..n], points, values)
-}
-
-// What an answer, a point and its value, does to a search of these parts: it is entered, or refused and all stays as it is.
-pub fn judge_parts(
-    opening: Opening,
-    count: u32,
-    slots: &[i32; rules::SLOTS],
-    point: i32,
-    value: i32,
-) -> Verdict
-    ensures { λ r. ⌜ r ≡ verdictOf (searchOf opening count (now (slots .entry))) point value ⌝ }
-{
-    let points = [point];
-    let values = [value];
-    let report = told(opening, count, slots, &points, &values);
-    if refusals::is_refusal(report) {
-        return Verdict {
-            report,
-            count,
-            at: 0,
-            value: slots[0],
-        };
-    }
-    Verdict {
-        report,
-        count: count + 1,
-        at: count as usize,
-        value,
     }
 }
 
@@ -145,7 +87,7 @@ impl Search {
         ensures { λ r. ⌜ r ≡ heldReport self ⌝ }
     {
         let none: [i32; 0] = [];
-        told(self.opening, self.count, &self.slots, &none, &none)
+        verdicts::told(self.opening, self.count, &self.slots, &none, &none)
     }
 
     // An answer, a point and its value, is entered or refused.
@@ -153,7 +95,7 @@ impl Search {
         ensures { λ r. ⌜ r ≡ enterOf self point value ⌝ }
     {
         let mut next = self;
-        let v = judge_parts(next.opening, next.count, &next.slots, point, value);
+        let v = verdicts::judge_parts(next.opening, next.count, &next.slots, point, value);
         let report = v.report;
         let at = v.at;
         let kept = v.value;

@@ -1,13 +1,13 @@
 // A search in the host's own memory, lent to a call: an opening or an answer is entered into it. Each function takes the search apart
-// and calls the step by value of crate `held`; what a refusal leaves is the search as it was.
+// and calls the step by value of crate `held` or `verdicts`; what a refusal leaves is the search as it was.
 ghost use mathlib.Core.Path.{_≡_};
 ghost use Rattle.held.specs.Held.{reopenOf, enterOf};
-ghost use Rattle.held.specs.Judged.{verdictOf};
+ghost use Rattle.verdicts.specs.Judged.{verdictOf};
 use held::Entered;
 use held::Search;
-use held::Verdict;
 use rules::Opening;
 use rules::Report;
+use verdicts::Verdict;
 
 // Makes the host's search a fresh one of the opening, and tells its report. A refused opening leaves it as it was.
 pub fn open_into(search: &mut Search, opening: Opening) -> Report
@@ -21,9 +21,9 @@ pub fn open_into(search: &mut Search, opening: Opening) -> Report
 
 // What an answer, a point and its value, does to a search.
 pub fn judge(s: Search, point: i32, value: i32) -> Verdict
-    ensures { λ r. ⌜ r ≡ verdictOf s point value ⌝ }
+    ensures { λ r. ⌜ r ≡ verdictOf (s .opening) (s .count) (s .slots) point value ⌝ }
 {
-    held::judge_parts(s.opening, s.count, &s.slots, point, value)
+    verdicts::judge_parts(s.opening, s.count, &s.slots, point, value)
 }
 
 // Enters an answer into the host's search: one slot and the count are stored. A refused answer leaves them as they were.

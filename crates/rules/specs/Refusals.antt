@@ -46,6 +46,10 @@ valueOutOfRange = 7
 abbrev pub sameSign : ℕ
 sameSign = 8
 
+-- a held search whose count is above the slots
+abbrev pub countAbove : ℕ
+countAbove = 9
+
 -- ---- the first that applies
 
 pub record Check : Type 0 where

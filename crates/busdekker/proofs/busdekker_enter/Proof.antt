@@ -8,8 +8,7 @@ use base.Logic.{emp}
 use contract.Monad.{factI}
 use Rattle.rules.specs.Rules.{slots}
 use Rattle.held.specs.declared.Search.{Search}
-use Rattle.held.specs.Judged.{verdictOf}
-use Rattle.held.specs.HeldLaws.{Stores, stores}
+use Rattle.held.specs.HeldLaws.{verdictOn, Stores, stores}
 use Rattle.busdekker.specs.declared.Written.{Written}
 use Rattle.rules.specs.Rows.{rowOf}
 use Rattle.busdekker.specs.Inner.{writtenOf}
@@ -23,10 +22,10 @@ use Rattle.lent.proofs.Slot.{stored, stores-two}
 use Rattle.busdekker.proofs.Types.{plain-row, written, written-laws}
 
 abbrev stepOf : Search → ℤ → ℤ → Written
-stepOf s x v = writtenOf (verdictOf s x v)
+stepOf s x v = writtenOf (verdictOn s x v)
 
-entered : (s : Search) (x v : ℤ) → length (s .slots) ≡ slots → Stores s x v (verdictOf s x v)
-entered s x v l = stores s x v (verdictOf s x v) l refl
+entered : (s : Search) (x v : ℤ) → length (s .slots) ≡ slots → Stores s x v (verdictOn s x v)
+entered s x v l = stores s x v (verdictOn s x v) l refl
 
 pub busdekker-enter-spec : {M : Type 1} → stated.statement M
 unfolding code.routine

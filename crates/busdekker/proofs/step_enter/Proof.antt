@@ -5,8 +5,8 @@ use lib.IntN.{ℤ}
 use mir.Syntax.{w32}
 use mir.Val.{SFits, toZ, ofZ}
 use mir.Facts.{toZ-ofZ}
-use Rattle.held.specs.declared.Verdict.{Verdict}
-use Rattle.held.specs.Judged.{verdictOf}
+use Rattle.verdicts.specs.declared.Verdict.{Verdict}
+use Rattle.held.specs.HeldLaws.{verdictOn}
 use Rattle.busdekker.specs.Inner.{writtenOf}
 use Rattle.rules.specs.declared.Row.{Row}
 use borrow.Author.Needs.{needs}
@@ -19,7 +19,7 @@ judge-requires c κs = search needs
 row-of-requires : tie.Need-row-of-requires
 row-of-requires c κs = search needs
 
-judged : (c : tie.After-judge) → c .judge .result ≡ verdictOf (c .before .args .search) (c .before .args .point) (c .before .args .value)
+judged : (c : tie.After-judge) → c .judge .result ≡ verdictOn (c .before .args .search) (c .before .args .point) (c .before .args .value)
 judged c = let s = c .before in rw (toZ-ofZ (s .fits .point), toZ-ofZ (s .fits .value)) at (c .judge .ensures)
 
 abbrev verdict-of : tie.After-struct-told → Verdict

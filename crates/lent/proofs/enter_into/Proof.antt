@@ -10,10 +10,9 @@ use contract.Monad.{factI}
 use denote.Struct.Laws as SL
 use Rattle.rules.specs.Rules.{slots}
 use Rattle.held.specs.declared.Search.{Search}
-use Rattle.held.specs.Judged.{verdictOf}
-use Rattle.held.specs.HeldLaws.{stores}
-use Rattle.held.proofs.Verdict as E
-use Rattle.held.proofs.Verdict.Laws as E′
+use Rattle.held.specs.HeldLaws.{verdictOn, stores}
+use Rattle.verdicts.proofs.Verdict as E
+use Rattle.verdicts.proofs.Verdict.Laws as E′
 use Rattle.lent.proofs.judge.Symbol as step
 use Rattle.lent.proofs.judge.Met as step-thm
 use Rattle.lent.proofs.enter_into as f
@@ -37,12 +36,12 @@ verdict-laws =
       is-value = λ r vs is. SL.owed E.the-type E′.the-laws r vs is .1 .1 .1 .0;
     }
 
-within : (h : Search) (p z : ℤ) → length (h .slots) ≡ slots → verdictOf h p z .at < slots
-within h p z l = stores h p z (verdictOf h p z) l refl .room
+within : (h : Search) (p z : ℤ) → length (h .slots) ≡ slots → verdictOn h p z .at < slots
+within h p z l = stores h p z (verdictOn h p z) l refl .room
 
 pub enter-into-spec : {M : Type 1} → stated.statement M
 unfolding code.routine
 enter-into-spec 𝓤 H 𝓜 𝓖 𝓡 =
-    stores-two report verdict verdict-laws verdictOf within 𝓤 H 𝓜 𝓖 𝓡 (f.clauses 𝓤 H (𝓖 .A) (𝓜 .mem) (𝓡 .run))
+    stores-two report verdict verdict-laws verdictOn within 𝓤 H 𝓜 𝓖 𝓡 (f.clauses 𝓤 H (𝓖 .A) (𝓜 .mem) (𝓡 .run))
     (λ κs a g l r e. let s = stores _ _ _ r l e in factI 𝓤 _ (emp 𝓤) (s .told, s .left))
     code.env key.name step.name (code.unfolded 𝓤 H 𝓜 𝓡) step.routine code.calls-lent·judge (step-thm.met 𝓤 H 𝓜 𝓖 𝓡)

@@ -1,4 +1,4 @@
--- `lent::judge` meets its contract: a search is the search of its parts.
+-- `lent::judge` meets its contract: the search is taken apart.
 -- Assumes nothing.
 use borrow.Author.Needs.{needs}
 use Rattle.integers.specs.Bounds.{read}

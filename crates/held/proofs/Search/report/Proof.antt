@@ -2,6 +2,7 @@
 -- Assumes nothing.
 use borrow.Author.Needs.{needs}
 use Rattle.rules.specs.Search.{answersOf}
+use Rattle.verdicts.specs.Judged.{standingBy}
 use Rattle.held.specs.Held.{standingOf, heldReport}
 use Rattle.held.proofs.Search.report.Statement.{statement}
 use Rattle.held.proofs.Search.report.Tie as tie
@@ -16,7 +17,7 @@ told-requires : tie.Need-told-requires
 told-requires c κs = search needs
 
 returns : tie.Need-returns
-unfolding heldReport standingOf answersOf
+unfolding heldReport standingOf standingBy answersOf
 returns c = c .told .ensures
 
 pub report-spec : {M : Type 1} → statement M

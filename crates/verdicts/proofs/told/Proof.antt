@@ -1,4 +1,4 @@
--- `held::told` meets its contract: a count above the slots is refused whatever comes after; else the values up to it are walked, and
+-- `verdicts::told` meets its contract: a count above the slots is refused whatever comes after; else the values up to it are walked, and
 -- then the answers.
 -- Assumes nothing.
 use mathlib.Core.Path.{refl, sym}
@@ -9,12 +9,12 @@ use lib.Seq.{length-take-le}
 use Rattle.rules.specs.declared.Progress.{Progress}
 use Rattle.rules.specs.Search.{reportAt}
 use Rattle.rules.specs.SearchLaws.{answers-stay}
-use Rattle.held.specs.Held.{standingOf}
-use Rattle.held.proofs.told.Statement.{statement}
-use Rattle.held.proofs.told.Tie as tie
+use Rattle.verdicts.specs.Judged.{standingBy}
+use Rattle.verdicts.proofs.told.Statement.{statement}
+use Rattle.verdicts.proofs.told.Tie as tie
 
 returns : tie.Need-returns
-unfolding reportAt standingOf
+unfolding reportAt standingBy
 returns c = let s = c .before .args in simp (
   lt-ltb _ _ (c .if1 .taken),
   answers-stay (s .opening) (Progress.Refused 9 0) (s .points .now)
@@ -30,7 +30,7 @@ follow-requires : tie.Need-follow-requires
 follow-requires c κs = search needs
 
 returns-2 : tie.Need-returns-2
-unfolding standingOf
+unfolding standingBy
 returns-2 c = simp (le-ltb _ _ (c .before .before .if1 .left)) (c .follow .ensures)
 
 pub told-spec : {M : Type 1} → statement M
