@@ -3,10 +3,10 @@
 use denote.Struct.Laws as SL
 use Rattle.rules.proofs.Row as N
 use Rattle.rules.proofs.Row.Laws as N′
-use Rattle.busdekker.proofs.Answered as E
-use Rattle.busdekker.proofs.Answered.Laws as E′
-use Rattle.busdekker.proofs.Written as W
-use Rattle.busdekker.proofs.Written.Laws as W′
+use Rattle.numbered.proofs.Answered as E
+use Rattle.numbered.proofs.Answered.Laws as E′
+use Rattle.numbered.proofs.Written as W
+use Rattle.numbered.proofs.Written.Laws as W′
 use Rattle.lent.proofs.Walk.{Plain, struct}
 use Rattle.lent.proofs.Whole.{Beside, BesideLaws}
 use Rattle.lent.proofs.Slot.{Verdicts, VerdictLaws}

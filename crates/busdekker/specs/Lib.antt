@@ -1,2 +1,2 @@
+-- The modules of `specs/`.
 pub mod Interface
-pub mod Inner

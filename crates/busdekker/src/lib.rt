@@ -4,68 +4,14 @@ ghost use mathlib.Core.Path.{_≡_};
 ghost use Rattle.rules.specs.Rows.{rowOf, quotationOf};
 ghost use Rattle.rules.specs.Search.{reportOf, quoteOf};
 ghost use Rattle.held.specs.Held.{reopenOf, heldReport, enterOf};
-ghost use Rattle.verdicts.specs.Judged.{verdictOf};
 ghost use Rattle.outcomes.specs.Sheet.{sheetOf};
-ghost use Rattle.busdekker.specs.Interface.{version, answeredOf};
-ghost use Rattle.busdekker.specs.Inner.{writtenOf};
-use held::Entered;
+ghost use Rattle.numbered.specs.Numbered.{answeredOf};
+ghost use Rattle.busdekker.specs.Interface.{version};
 use held::Search;
+use numbered::Answered;
 use rules::Opening;
 use rules::Quotation;
 use rules::Row;
-
-// A report as plain numbers, and beside it the search as it then is.
-#[repr(C)]
-pub struct Answered {
-    pub report: Row,
-    pub search: Search,
-}
-
-// What an answer does to a search, with the report as plain numbers: the count that the search then has, and the value of one slot.
-pub struct Written {
-    pub report: Row,
-    pub count: u32,
-    pub at: usize,
-    pub value: i32,
-}
-
-// ---- by value
-
-// A fresh search of an opening in a search's place.
-fn step_open(search: Search, opening: Opening) -> Answered
-    ensures { λ r. ⌜ r ≡ answeredOf (reopenOf search opening) ⌝ }
-{
-    let e = search.reopen(opening);
-    let report = e.report;
-    let next = e.search;
-    Answered {
-        report: rows::row_of(report),
-        search: next,
-    }
-}
-
-// What an answer does to a search.
-fn step_enter(search: Search, point: i32, value: i32) -> Written
-    ensures { λ r. ⌜ r ≡ writtenOf (verdictOf (search .opening) (search .count) (search .slots) point value) ⌝ }
-{
-    let v = lent::judge(search, point, value);
-    let report = v.report;
-    Written {
-        report: rows::row_of(report),
-        count: v.count,
-        at: v.at,
-        value: v.value,
-    }
-}
-
-// The report of a search.
-fn step_ask(search: Search) -> Row
-    ensures { λ r. ⌜ r ≡ rowOf (heldReport search) ⌝ }
-{
-    rows::row_of(search.report())
-}
-
-// ---- exported
 
 // The version of this interface.
 #[no_mangle]
@@ -89,7 +35,7 @@ pub extern "C" fn busdekker_open(search: &mut Search, opening: Opening) -> Row
     ensures { λ r. ⌜ (r ≡ rowOf ((reopenOf (now (search .entry)) opening) .report))
         × (now (search .exit) ≡ (reopenOf (now (search .entry)) opening) .search) ⌝ }
 {
-    let e = step_open(*search, opening);
+    let e = numbered::step_open(*search, opening);
     *search = e.search;
     e.report
 }
@@ -100,7 +46,7 @@ pub extern "C" fn busdekker_enter(search: &mut Search, point: i32, value: i32) -
     ensures { λ r. ⌜ (r ≡ rowOf ((enterOf (now (search .entry)) point value) .report))
         × (now (search .exit) ≡ (enterOf (now (search .entry)) point value) .search) ⌝ }
 {
-    let w = step_enter(*search, point, value);
+    let w = numbered::step_enter(*search, point, value);
     let at = w.at;
     (*search).slots[at] = w.value;
     (*search).count = w.count;
@@ -130,7 +76,7 @@ pub extern "C" fn busdekker_entered(held: Search, point: i32, value: i32) -> Ans
 pub extern "C" fn busdekker_ask(search: &Search) -> Row
     ensures { λ r. ⌜ r ≡ rowOf (heldReport (now (search .entry))) ⌝ }
 {
-    step_ask(*search)
+    numbered::step_ask(*search)
 }
 
 // The report on an opening and a list of values, of any length.

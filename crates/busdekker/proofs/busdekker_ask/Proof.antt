@@ -40,10 +40,10 @@ use Rattle.held.specs.declared.Search.{Search}
 use Rattle.rules.specs.declared.Row.{Row}
 use Rattle.held.proofs.Search as S
 use Rattle.held.proofs.Search.Laws as S′
-use Rattle.busdekker.proofs.step_ask as step
-use Rattle.busdekker.proofs.step_ask.Symbol as step-def
-use Rattle.busdekker.proofs.step_ask.Symbol.{name as #step}
-use Rattle.busdekker.proofs.step_ask.Met as step-thm
+use Rattle.numbered.proofs.step_ask as step
+use Rattle.numbered.proofs.step_ask.Symbol as step-def
+use Rattle.numbered.proofs.step_ask.Symbol.{name as #step}
+use Rattle.numbered.proofs.step_ask.Met as step-thm
 use Rattle.busdekker.proofs.busdekker_ask.Key.{name as #of}
 use Rattle.busdekker.proofs.busdekker_ask as f
 use Rattle.busdekker.proofs.busdekker_ask.Statement as stated
@@ -135,5 +135,5 @@ unfolding code.routine
 busdekker-ask-spec 𝓤 H 𝓜 𝓖 𝓡 =
     by-one-call 𝓤 H 𝓜 𝓖 𝓡 f.ended stayed (f.clauses 𝓤 H (𝓖 .A) (𝓜 .mem) (𝓡 .run)) (goes 𝓤 H (𝓖 .A) (givenOf 𝓤 H 𝓜 𝓖) (𝓜 .mem) (𝓡 .run))
     code.env #of code.function (code.unfolded 𝓤 H 𝓜 𝓡)
-    (Step 𝓤 H (𝓖 .A) (𝓜 .mem) (𝓡 .run)) #step step-def.routine code.calls-busdekker·step-ask (step-thm.met 𝓤 H 𝓜 𝓖 𝓡)
+    (Step 𝓤 H (𝓖 .A) (𝓜 .mem) (𝓡 .run)) #step step-def.routine code.calls-numbered·step-ask (step-thm.met 𝓤 H 𝓜 𝓖 𝓡)
     (walks 𝓤 H (𝓖 .A) (givenOf 𝓤 H 𝓜 𝓖) (𝓜 .mem) (𝓡 .run))

@@ -9,11 +9,11 @@ use contract.Monad.{factI}
 use Rattle.rules.specs.Rules.{slots}
 use Rattle.held.specs.declared.Search.{Search}
 use Rattle.held.specs.HeldLaws.{verdictOn, Stores, stores}
-use Rattle.busdekker.specs.declared.Written.{Written}
+use Rattle.numbered.specs.declared.Written.{Written}
 use Rattle.rules.specs.Rows.{rowOf}
-use Rattle.busdekker.specs.Inner.{writtenOf}
-use Rattle.busdekker.proofs.step_enter.Symbol as step
-use Rattle.busdekker.proofs.step_enter.Met as step-thm
+use Rattle.numbered.specs.Inner.{writtenOf}
+use Rattle.numbered.proofs.step_enter.Symbol as step
+use Rattle.numbered.proofs.step_enter.Met as step-thm
 use Rattle.busdekker.proofs.busdekker_enter as f
 use Rattle.busdekker.proofs.busdekker_enter.Key as key
 use Rattle.busdekker.proofs.busdekker_enter.Statement as stated
@@ -35,4 +35,4 @@ busdekker-enter-spec 𝓤 H 𝓜 𝓖 𝓡 =
     (λ κs a g l r e.
     let s = entered (a .0 .now) (a .1 .0) (a .1 .1 .0) l in
     factI 𝓤 _ (emp 𝓤) (ap (λ (y : Written). y .report) e ∙ ap rowOf (s .told), ap (stored written (a .0 .now)) e ∙ s .left))
-    code.env key.name step.name (code.unfolded 𝓤 H 𝓜 𝓡) step.routine code.calls-busdekker·step-enter (step-thm.met 𝓤 H 𝓜 𝓖 𝓡)
+    code.env key.name step.name (code.unfolded 𝓤 H 𝓜 𝓡) step.routine code.calls-numbered·step-enter (step-thm.met 𝓤 H 𝓜 𝓖 𝓡)

@@ -7,10 +7,10 @@ use contract.Monad.{factI}
 use Rattle.rules.specs.declared.Opening.{Opening}
 use Rattle.held.specs.declared.Search.{Search}
 use Rattle.held.specs.Held.{reopenOf}
-use Rattle.busdekker.specs.declared.Answered.{Answered}
-use Rattle.busdekker.specs.Interface.{answeredOf}
-use Rattle.busdekker.proofs.step_open.Symbol as step
-use Rattle.busdekker.proofs.step_open.Met as step-thm
+use Rattle.numbered.specs.declared.Answered.{Answered}
+use Rattle.numbered.specs.Numbered.{answeredOf}
+use Rattle.numbered.proofs.step_open.Symbol as step
+use Rattle.numbered.proofs.step_open.Met as step-thm
 use Rattle.busdekker.proofs.busdekker_open as f
 use Rattle.busdekker.proofs.busdekker_open.Key as key
 use Rattle.busdekker.proofs.busdekker_open.Statement as stated
@@ -27,4 +27,4 @@ unfolding code.routine
 busdekker-open-spec 𝓤 H 𝓜 𝓖 𝓡 =
     stores-whole plain-row opening (λ p. tt) beside beside-laws (λ p f. refl) stepOf 𝓤 H 𝓜 𝓖 𝓡 (f.clauses 𝓤 H (𝓖 .A) (𝓜 .mem) (𝓡 .run))
     (λ κs a g r e. factI 𝓤 _ (emp 𝓤) (ap (λ (y : Answered). y .report) e, ap (λ (y : Answered). y .search) e))
-    code.env key.name step.name (code.unfolded 𝓤 H 𝓜 𝓡) step.routine code.calls-busdekker·step-open (step-thm.met 𝓤 H 𝓜 𝓖 𝓡)
+    code.env key.name step.name (code.unfolded 𝓤 H 𝓜 𝓡) step.routine code.calls-numbered·step-open (step-thm.met 𝓤 H 𝓜 𝓖 𝓡)

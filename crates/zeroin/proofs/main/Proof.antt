@@ -1,11 +1,11 @@
--- `zeroin::main` is safe: the buffer is longer than the longest text, and what was written lies within `out`.
+-- `zeroin::main` is safe: what was written lies within `out`.
 -- Assumes nothing.
 use Prim.Native.Nat.{_≤_}
 use mathlib.Core.Path.{sym}
 use lib.ListN.{length}
 use lib.Seq.{length-take-le}
 use borrow.Author.Needs.{needs}
-use Rattle.zeroin.specs.InputLaws.{answers-within}
+use Rattle.input.specs.InputLaws.{answers-within}
 use Rattle.zeroin.proofs.main.Statement.{statement}
 use Rattle.zeroin.proofs.main.Tie as tie
 
@@ -20,9 +20,6 @@ fill-requires c κs = search needs
 
 slice-aggregate-write-record : tie.Need-slice-aggregate-write-record
 slice-aggregate-write-record c = search needs
-
-slice-aggregate-write-record-2 : tie.Need-slice-aggregate-write-record-2
-slice-aggregate-write-record-2 c = search needs
 
 write-record-requires : tie.Need-write-record-requires
 write-record-requires c κs = search needs
@@ -64,7 +61,6 @@ main-spec =
     slice-aggregate-fill
     fill-requires
     slice-aggregate-write-record
-    slice-aggregate-write-record-2
     write-record-requires
     slice-aggregate-write-all
     write-all-requires

@@ -1,10 +1,10 @@
--- `busdekker::step_ask` meets its contract: the numbers are those of the search's report.
+-- `numbered::step_ask` meets its contract: the numbers are those of the search's report.
 -- Assumes nothing.
 use mathlib.Core.Path.{ap, _∙_}
 use Rattle.rules.specs.Rows.{rowOf}
 use borrow.Author.Needs.{needs}
-use Rattle.busdekker.proofs.step_ask.Statement.{statement}
-use Rattle.busdekker.proofs.step_ask.Tie as tie
+use Rattle.numbered.proofs.step_ask.Statement.{statement}
+use Rattle.numbered.proofs.step_ask.Tie as tie
 
 report-requires : tie.Need-report-requires
 report-requires c κs = search needs

@@ -2,7 +2,7 @@
 -- Assumes nothing.
 use Rattle.rules.specs.Rows.{rowOf}
 use Rattle.verdicts.specs.declared.Verdict.{Verdict}
-use Rattle.busdekker.specs.declared.Written.{Written}
+use Rattle.numbered.specs.declared.Written.{Written}
 
 -- what an answer does to a search, with the report as plain numbers
 abbrev pub writtenOf : Verdict → Written

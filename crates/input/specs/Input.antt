@@ -6,7 +6,7 @@ use mathlib.Core.List.{List, _++_}
 use lib.ListN.{length, take}
 use Rattle.printing.specs.Printed.{recordOf, placed, placedLength}
 use Rattle.outcomes.specs.Sheet.{sheetOf}
-use Rattle.zeroin.specs.declared.Filled.{Filled}
+use Rattle.input.specs.declared.Filled.{Filled}
 
 -- an input that ended did so before the buffer was full
 abbrev pub Within : Filled → List ℕ → Type 0

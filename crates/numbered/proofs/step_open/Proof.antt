@@ -1,11 +1,11 @@
--- `busdekker::step_open` meets its contract: the numbers are the report's, and the search stays beside them.
+-- `numbered::step_open` meets its contract: the numbers are the report's, and the search stays beside them.
 -- Assumes nothing.
 use mathlib.Core.Path.{ap, _∙_}
 use Rattle.rules.specs.declared.Row.{Row}
-use Rattle.busdekker.specs.Interface.{answeredOf}
+use Rattle.numbered.specs.Numbered.{answeredOf}
 use borrow.Author.Needs.{needs}
-use Rattle.busdekker.proofs.step_open.Statement.{statement}
-use Rattle.busdekker.proofs.step_open.Tie as tie
+use Rattle.numbered.proofs.step_open.Statement.{statement}
+use Rattle.numbered.proofs.step_open.Tie as tie
 
 reopen-requires : tie.Need-reopen-requires
 reopen-requires c κs = search needs

@@ -1,22 +1,27 @@
--- `zeroin::write_record` meets its contract: an input that fills the buffer is too long, however it goes on.
+-- `input::write_record` meets its contract: an input that fills the buffer is too long, however it goes on.
 -- Assumes nothing.
-use Prim.Native.Nat.{_<_}
-use mathlib.Core.Path.{refl, sym, subst}
+use Prim.Native.Nat.{_+_, _<_}
+use mathlib.Core.Path.{_≡_, refl, sym, subst}
 use native.Mathlib.Omega.{arith}
 use lib.ListN.{length}
 use lib.Seq.{length-take-le}
 use borrow.Author.Needs.{needs}
-use Rattle.zeroin.specs.declared.Filled.{Filled}
-use Rattle.zeroin.specs.Input.{Within, Answers}
-use Rattle.zeroin.specs.InputLaws.{goes-on}
-use Rattle.zeroin.proofs.write_record.Statement.{statement}
-use Rattle.zeroin.proofs.write_record.Tie as tie
+use Rattle.forms.specs.Entries.{longestText}
+use Rattle.input.specs.declared.Filled.{Filled}
+use Rattle.input.specs.Input.{Within, Answers}
+use Rattle.input.specs.InputLaws.{goes-on}
+use Rattle.input.proofs.write_record.Statement.{statement}
+use Rattle.input.proofs.write_record.Tie as tie
+
+-- the buffer is longer than the longest text
+long : (c : tie.After-bytes) → length (c .before .before .args .text .now) ≡ longestText + 1
+long c = search needs
 
 -- an input that ended did so within the buffer
 ended : (c : tie.After-filled) → c .filled .given .0 .0 < length (c .before .before .before .before .args .text .now)
 ended c =
     let start = c .before .before .before .before in
-    subst (λ (f : Filled). Within f (start .args .text .now)) (c .filled .given .1) (start .pre .0)
+    subst (λ (f : Filled). Within f (start .args .text .now)) (c .filled .given .1) (start .pre)
 
 enum-told : tie.Need-enum-told
 enum-told c = search needs
@@ -46,7 +51,7 @@ returns c =
     let called = c .before .before .answer-sheet in
     subst (λ (f : Filled). Answers f (start .args .text .now) (start .args .out .now) (called .result) (called .last .1 .0))
     (sym (told .enum-told .given .1))
-    (goes-on (start .pre .1) (record { long = called .ensures .0; text = called .ensures .1 }))
+    (goes-on (omega (arith, long (told .before .before))) (record { long = called .ensures .0; text = called .ensures .1 }))
 
 same-length-2 : tie.Need-same-length-2
 same-length-2 c = search needs

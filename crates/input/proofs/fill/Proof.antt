@@ -1,4 +1,4 @@
--- `zeroin::fill` meets its contract: what has been read lies within the buffer, and each turn reads a byte or more. The measure is what
+-- `input::fill` meets its contract: what has been read lies within the buffer, and each turn reads a byte or more. The measure is what
 -- is left of the buffer.
 -- Assumes nothing.
 use Prim.Native.Nat.{ℕ, _+_, _-_, _≤_}
@@ -8,8 +8,8 @@ use mathlib.Core.Path.{_≡_, _∙_}
 use borrow.Author.Needs.{needs}
 use borrow.Rule.Slice.PartMut.{putMid}
 use lib.ListN.{length, length-take, length-drop}
-use Rattle.zeroin.proofs.fill.Statement.{statement}
-use Rattle.zeroin.proofs.fill.Tie as tie
+use Rattle.input.proofs.fill.Statement.{statement}
+use Rattle.input.proofs.fill.Tie as tie
 
 abbrev Inv-loop : tie.InvT-loop
 Inv-loop buf₀ done₀ buf done = (done ≤ length buf) × (length buf ≡ length buf₀)

@@ -1,4 +1,4 @@
--- `busdekker::step_enter` meets its contract: the numbers are the report's, and the rest is what `judge` says.
+-- `numbered::step_enter` meets its contract: the numbers are the report's, and the rest is what `judge` says.
 -- Assumes nothing.
 use mathlib.Core.Path.{_≡_, ap, ap₂, _∙_}
 use lib.IntN.{ℤ}
@@ -7,11 +7,11 @@ use mir.Val.{SFits, toZ, ofZ}
 use mir.Facts.{toZ-ofZ}
 use Rattle.verdicts.specs.declared.Verdict.{Verdict}
 use Rattle.held.specs.HeldLaws.{verdictOn}
-use Rattle.busdekker.specs.Inner.{writtenOf}
+use Rattle.numbered.specs.Inner.{writtenOf}
 use Rattle.rules.specs.declared.Row.{Row}
 use borrow.Author.Needs.{needs}
-use Rattle.busdekker.proofs.step_enter.Statement.{statement}
-use Rattle.busdekker.proofs.step_enter.Tie as tie
+use Rattle.numbered.proofs.step_enter.Statement.{statement}
+use Rattle.numbered.proofs.step_enter.Tie as tie
 
 judge-requires : tie.Need-judge-requires
 judge-requires c κs = search needs

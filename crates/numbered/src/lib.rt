@@ -1,0 +1,59 @@
+// The calls on a search with the report in plain numbers, by value: what the interface for C does to the host's own search.
+ghost use mathlib.Core.Path.{_≡_};
+ghost use Rattle.rules.specs.Rows.{rowOf};
+ghost use Rattle.held.specs.Held.{reopenOf, heldReport};
+ghost use Rattle.verdicts.specs.Judged.{verdictOf};
+ghost use Rattle.numbered.specs.Numbered.{answeredOf};
+ghost use Rattle.numbered.specs.Inner.{writtenOf};
+use held::Search;
+use rules::Opening;
+use rules::Row;
+
+// A report as plain numbers, and beside it the search as it then is.
+#[repr(C)]
+pub struct Answered {
+    pub report: Row,
+    pub search: Search,
+}
+
+// What an answer does to a search, with the report as plain numbers: the count that the search then has, and the value of one slot.
+pub struct Written {
+    pub report: Row,
+    pub count: u32,
+    pub at: usize,
+    pub value: i32,
+}
+
+// A fresh search of an opening in a search's place.
+pub fn step_open(search: Search, opening: Opening) -> Answered
+    ensures { λ r. ⌜ r ≡ answeredOf (reopenOf search opening) ⌝ }
+{
+    let e = search.reopen(opening);
+    let report = e.report;
+    let next = e.search;
+    Answered {
+        report: rows::row_of(report),
+        search: next,
+    }
+}
+
+// What an answer does to a search.
+pub fn step_enter(search: Search, point: i32, value: i32) -> Written
+    ensures { λ r. ⌜ r ≡ writtenOf (verdictOf (search .opening) (search .count) (search .slots) point value) ⌝ }
+{
+    let v = lent::judge(search, point, value);
+    let report = v.report;
+    Written {
+        report: rows::row_of(report),
+        count: v.count,
+        at: v.at,
+        value: v.value,
+    }
+}
+
+// The report of a search.
+pub fn step_ask(search: Search) -> Row
+    ensures { λ r. ⌜ r ≡ rowOf (heldReport search) ⌝ }
+{
+    rows::row_of(search.report())
+}
