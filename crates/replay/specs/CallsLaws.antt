@@ -12,25 +12,29 @@ use lib.IntN.{ℤ, pos}
 use lib.ListN.{length, drop, getD, set, length-append, length-drop}
 use lib.Seq.{sets, sets-eq, length-sets, drop-cons}
 use Rattle.rules.specs.declared.Report.{Report}
-use Rattle.rules.specs.declared.Row.{Row}
-use Rattle.rules.specs.Rows.{rowOf, rowNumbers}
+use Rattle.rules.specs.Rows.{rowOf, rowNumbers, numbersEach}
 use Rattle.held.specs.declared.Search.{Search}
 use Rattle.held.specs.declared.Entered.{Entered}
 use Rattle.held.specs.Held.{enterOf}
 use Rattle.journal.specs.Answers.{Answer}
 use Rattle.journal.specs.Run.{Call, byValue, into, callOf, reportsOf, searchAfter}
-use Rattle.replay.specs.Replay.{callWith, callsUpTo, numbersEach, callsIn, rowsOf, writtenOver}
-use Rattle.replay.specs.Calls.{shortest, callAt, Before, CallMade, CallsMade}
+use Rattle.runs.specs.Listed.{shortest, Before, enteredAt, CallMade}
+use Rattle.replay.specs.Replay.{callWith, callsUpTo, callsIn, rowsOf, writtenOver}
+use Rattle.replay.specs.Calls.{callAt, CallsMade}
 
 -- ---- the calls one by one
 
 -- a call does the same by either kind
-pub call-either : (k : ℕ) (s : Search) (a : Answer) → callOf s (callWith k a) ≡ enterOf s (a .point) (a .value)
+call-either : (k : ℕ) (s : Search) (a : Answer) → callOf s (callWith k a) ≡ enterOf s (a .point) (a .value)
 call-either k s a = go (eqb k 0)
   where
     go : (b : Bool) → callOf s (cond b (byValue a) (into a)) ≡ enterOf s (a .point) (a .value)
     go true = refl
     go false = refl
+
+-- so the answer entered at a place is the call there
+call-at : (s : Search) (ks : List ℕ) (xs vs : List ℤ) (i : ℕ) → enteredAt s xs vs i ≡ callOf s (callAt ks xs vs i)
+call-at s ks xs vs i = sym (call-either (getD ks i 0) s (record { point = getD xs i (pos 0); value = getD vs i (pos 0) }))
 
 -- none where the bound or a list is at its end
 no-calls : (n : ℕ) (ks : List ℕ) (xs vs : List ℤ) → min (min n (length ks)) (min (length xs) (length vs)) ≡ 0 → callsUpTo n ks xs vs ≡ []
@@ -70,19 +74,6 @@ unfolding reportsOf
 reports-length s [] = refl
 reports-length s (c ∷ calls) = ap suc (reports-length (callOf s c .search) calls)
 
--- one call made: e is what it answers and leaves, w the row of its report
-pub call-made : (i : ℕ) (s : Search) (ks : List ℕ) (xs vs : List ℤ) (before : List ℕ) {e : Entered} {w : Row} {after : List ℕ}
-    → e ≡ enterOf s (getD xs i (pos 0)) (getD vs i (pos 0)) → w ≡ rowOf (e .report) → after ≡ sets before (numbersEach * i) (rowNumbers w)
-    → CallMade i s ks xs vs before (e .search) after
-call-made i s ks xs vs before {e} {w} {after} f g h =
-    let same = f ∙ sym (call-either (getD ks i 0) s (record { point = getD xs i (pos 0); value = getD vs i (pos 0) })) in
-    record {
-      left = ap (λ (x : Entered). x .search) same;
-      written =
-          h
-          ∙ ap (λ (y : Row). sets before (numbersEach * i) (rowNumbers y)) (g ∙ ap (λ (x : Entered). rowOf (x .report)) same);
-    }
-
 -- ---- the run so far
 
 sub-min : (a b i : ℕ) → min (a - i) (b - i) ≡ min a b - i
@@ -121,7 +112,7 @@ module _ (s₀ : Search) (ks : List ℕ) (xs vs : List ℤ) (before : List ℕ) 
     pub one-before : i < m → Before i ks xs vs list
     one-before h = record { kind = omega arith; point = omega arith; value = omega arith; room = omega (arith, made .same) }
 
-    pub made-more : i < m → {r : Search} {after : List ℕ} → CallMade i s ks xs vs list r after → Made s₀ ks xs vs before (i + 1) r after
+    pub made-more : i < m → {r : Search} {after : List ℕ} → CallMade i s xs vs list r after → Made s₀ ks xs vs before (i + 1) r after
     unfolding searchAfter reportsOf rowsOf
     made-more h {r} {after} one =
         let c = callOf s (callAt ks xs vs i) in
@@ -129,7 +120,10 @@ module _ (s₀ : Search) (ks : List ℕ) (xs vs : List ℤ) (before : List ℕ) 
         let left = leftOf n ks xs vs (i + 1) in
         let more = left-more i (omega arith) in
         let next : numbersEach * i + length row ≡ numbersEach * (i + 1) = omega (arith, row-length (c .report)) in
-        rw (one .left, one .written)
+        let same = call-at s ks xs vs i in
+        let went = one .left ∙ ap (λ (e : Entered). e .search) same in
+        let wrote = one .written ∙ ap (λ (e : Entered). sets list (numbersEach * i) (rowNumbers (rowOf (e .report)))) same in
+        rw (went, wrote)
         (record {
           same = length-sets list (numbersEach * i) row ∙ made .same;
           onward = made .onward ∙ ap (searchAfter s) more;

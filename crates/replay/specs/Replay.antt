@@ -10,7 +10,7 @@ use lib.ListN.{length, drop}
 use Rattle.rules.specs.declared.Opening.{Opening}
 use Rattle.rules.specs.declared.Report.{Report}
 use Rattle.rules.specs.Refusals.{openingRefusal, Accepted}
-use Rattle.rules.specs.Rows.{rowOf, rowNumbers}
+use Rattle.rules.specs.Rows.{rowOf, rowNumbers, numbersEach}
 use Rattle.held.specs.Held.{blank}
 use Rattle.journal.specs.Answers.{Answer}
 use Rattle.journal.specs.Journal.{journalReport, toldAll}
@@ -31,11 +31,7 @@ callsUpTo (suc n) (k ∷ ks) [] vs = []
 callsUpTo (suc n) (k ∷ ks) (x ∷ xs) [] = []
 callsUpTo (suc n) (k ∷ ks) (x ∷ xs) (v ∷ vs) = callWith k (record { point = x; value = v }) ∷ callsUpTo n ks xs vs
 
--- a report is written as the numbers of its row
-abbrev pub numbersEach : ℕ
-numbersEach = 8
-
--- as many calls as the lent list has room for their reports
+-- as many calls as the lent list has room for their reports, each written as the numbers of its row
 abbrev pub callsIn : List ℕ → List ℤ → List ℤ → List ℕ → List Call
 callsIn ks xs vs list = callsUpTo (length list / numbersEach) ks xs vs
 

@@ -38,6 +38,10 @@ abbrev pub rowNumbers : Row → List ℕ
 rowNumbers w =
     w .kind ∷ w .point ∷ w .lower ∷ w .upper ∷ w .better ∷ w .taken ∷ w .number ∷ w .place ∷ []
 
+-- how many they are
+abbrev pub numbersEach : ℕ
+numbersEach = 8
+
 -- ---- the numbers of a quote: t and the most answers, or a refusal
 
 abbrev pub quotationOf : Quote → Quotation

@@ -1,4 +1,4 @@
--- `sheet::outcome` meets its contract: an opening's refusal, or the outcome of the answers up to the count.
+-- `settled::outcome` meets its contract: an opening's refusal, or the outcome of the answers up to the count.
 -- Assumes nothing.
 use Prim.Native.Nat.{ℕ}
 use mathlib.Core.Path.{_≡_, refl, sym, ap, subst, _∙_}
@@ -13,8 +13,8 @@ use Rattle.rules.specs.SearchLaws.{CountedAt}
 use Rattle.outcomes.specs.Sheet.{leadsTo}
 use Rattle.outcomes.specs.SheetLaws.{settledBy, settled-is, Below, below, answers-counted, outcome-accepted, outcome-refused}
 use borrow.Author.Needs.{needs}
-use Rattle.sheet.proofs.outcome.Statement.{statement}
-use Rattle.sheet.proofs.outcome.Tie as tie
+use Rattle.settled.proofs.outcome.Statement.{statement}
+use Rattle.settled.proofs.outcome.Tie as tie
 
 long-points : (s : tie.Start) → length (s .args .t1 .points) ≡ slots
 long-points s = search needs

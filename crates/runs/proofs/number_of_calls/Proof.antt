@@ -1,10 +1,10 @@
--- `replay::number_of_calls` meets its contract: the least of four numbers, two and two.
+-- `runs::number_of_calls` meets its contract: the least of four numbers, two and two.
 -- Assumes nothing.
 use Prim.Native.Nat.{min}
 use mathlib.Core.Path.{ap₂, _∙_}
 use borrow.Author.Needs.{needs}
-use Rattle.replay.proofs.number_of_calls.Statement.{statement}
-use Rattle.replay.proofs.number_of_calls.Tie as tie
+use Rattle.runs.proofs.number_of_calls.Statement.{statement}
+use Rattle.runs.proofs.number_of_calls.Tie as tie
 
 lesser-requires : tie.Need-lesser-requires
 lesser-requires c κs = search needs

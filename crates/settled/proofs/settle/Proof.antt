@@ -1,4 +1,4 @@
--- `sheet::settle` meets its contract: by the report. A refusal has the index of one of the answers.
+-- `settled::settle` meets its contract: by the report. A refusal has the index of one of the answers.
 -- Assumes nothing.
 use mathlib.Core.Path.{_≡_, refl, subst, _∙_}
 use mathlib.Core.List.{[], _∷_}
@@ -11,8 +11,8 @@ use Rattle.rules.proofs.Report.{the-type}
 use Rattle.forms.specs.declared.Entries.{Entries}
 use Rattle.outcomes.specs.SheetLaws.{keptBy, settledBy, Below}
 use borrow.Author.Needs.{needs}
-use Rattle.sheet.proofs.settle.Statement.{statement}
-use Rattle.sheet.proofs.settle.Tie as tie
+use Rattle.settled.proofs.settle.Statement.{statement}
+use Rattle.settled.proofs.settle.Tie as tie
 
 -- a report that is a next point or a stop
 going-on : (e : Entries) (r : Report) → OneOf (0 ∷ 1 ∷ []) (tagOf the-type r) → keptBy e r ≡ settledBy e r

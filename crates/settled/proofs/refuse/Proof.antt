@@ -1,8 +1,8 @@
--- `sheet::refuse` meets its contract: what stands beside the refusal is the blank.
+-- `settled::refuse` meets its contract: what stands beside the refusal is the blank.
 -- Assumes nothing.
 use borrow.Author.Needs.{needs}
-use Rattle.sheet.proofs.refuse.Statement.{statement}
-use Rattle.sheet.proofs.refuse.Tie as tie
+use Rattle.settled.proofs.refuse.Statement.{statement}
+use Rattle.settled.proofs.refuse.Tie as tie
 
 blank-requires : tie.Need-blank-requires
 blank-requires c κs = search needs

@@ -1,4 +1,4 @@
--- `sheet::told` meets its contract: the answers up to the count, after no value, from an opening that is accepted.
+-- `settled::told` meets its contract: the answers up to the count, after no value, from an opening that is accepted.
 -- Assumes nothing.
 use mathlib.Core.Path.{_≡_, sym, _∙_}
 use native.Mathlib.Omega.{arith}
@@ -7,8 +7,8 @@ use borrow.Author.Tests.{eq-eqb}
 use lib.ListN.{length, take}
 use lib.Seq.{length-take-le}
 use Rattle.rules.specs.Search.{beginOf, progressOf}
-use Rattle.sheet.proofs.told.Statement.{statement}
-use Rattle.sheet.proofs.told.Tie as tie
+use Rattle.settled.proofs.told.Statement.{statement}
+use Rattle.settled.proofs.told.Tie as tie
 
 points-are : (s : tie.Start) → length (take (s .args .count) (s .args .points .now)) ≡ s .args .count
 points-are s = length-take-le (s .args .count) (s .args .points .now) (s .pre .1)

@@ -1,21 +1,25 @@
--- `replay::call_at` meets its contract: the answer at the place is entered, and the row of the report stored.
+-- `runs::call_at` meets its contract: the answer at the place is entered, and the row of the report stored.
 -- Assumes nothing.
-use mathlib.Core.Path.{_≡_}
+use Prim.Native.Nat.{_*_}
+use mathlib.Core.Path.{_≡_, ap, _∙_}
 use lib.IntN.{pos}
 use lib.ListN.{getD}
+use lib.Seq.{sets}
 use mir.Syntax.{w32}
 use mir.Val.{SFits}
 use borrow.Author.Needs.{needs}
 use Rattle.integers.specs.Bounds.{read}
-use Rattle.held.specs.Held.{enterOf}
-use Rattle.replay.specs.CallsLaws.{call-made}
-use Rattle.replay.proofs.call_at.Statement.{statement}
-use Rattle.replay.proofs.call_at.Tie as tie
+use Rattle.held.specs.declared.Entered.{Entered}
+use Rattle.rules.specs.declared.Row.{Row}
+use Rattle.rules.specs.Rows.{rowOf, rowNumbers, numbersEach}
+use Rattle.runs.specs.Listed.{enteredAt}
+use Rattle.runs.proofs.call_at.Statement.{statement}
+use Rattle.runs.proofs.call_at.Tie as tie
 
 -- the call enters the point and the value at the place
 entered : (c : tie.After-call)
     → let x = c .before .before .before .before .before .before .args in
-    c .call .result ≡ enterOf (x .search) (getD (x .points .now) (x .i) (pos 0)) (getD (x .values .now) (x .i) (pos 0))
+    c .call .result ≡ enteredAt (x .search) (x .points .now) (x .values .now) (x .i)
 entered c =
     let x = c .before .before .before .before .before .before .args in
     let f : SFits w32 (getD (x .points .now) (x .i) (pos 0)) = search needs in
@@ -56,8 +60,12 @@ returns : tie.Need-returns
 returns c =
     let put = c .before .before .before in
     let x = put .before .before .before .before .before .before .before .before .before .args in
-    call-made (x .i) (x .search) (x .kinds .now) (x .points .now) (x .values .now) (x .rows .now)
-    (entered (put .before .before .before)) (put .before .row-of .ensures) (put .put-row .ensures)
+    let same = entered (put .before .before .before) in
+    let row = put .before .row-of .ensures ∙ ap (λ (e : Entered). rowOf (e .report)) same in
+    record {
+      left = ap (λ (e : Entered). e .search) same;
+      written = put .put-row .ensures ∙ ap (λ (w : Row). sets (x .rows .now) (numbersEach * x .i) (rowNumbers w)) row;
+    }
 
 pub call-at-spec : {M : Type 1} → statement M
 call-at-spec =
