@@ -1,5 +1,5 @@
--- The table "Refused, by place of check" of document 01: the rows of the opening and of each answer, in the order written.
--- A refusal is its number, and 0 stands for none.
+-- The table "Refused, by place of check" of document 01: the numbers 1 to 9, and the rows of the opening and of each answer, in the order
+-- written. A refusal is its number, and 0 stands for none.
 -- Assumes nothing.
 use Prim.Native.Nat.{ℕ}
 use mathlib.Core.Path.{_≡_}
