@@ -1,11 +1,8 @@
--- What is known of an input from what was read of it, and what is answered.
+-- What is known of an input from what was read of it.
 -- Assumes nothing.
-use Prim.Native.Nat.{ℕ, _≤_, _<_}
-use mathlib.Core.Path.{_≡_}
-use mathlib.Core.List.{List, _++_}
-use lib.ListN.{length, take}
-use Rattle.printing.specs.Printed.{recordOf, placed, placedLength}
-use Rattle.outcomes.specs.Sheet.{sheetOf}
+use Prim.Native.Nat.{ℕ, _<_}
+use mathlib.Core.List.{List}
+use lib.ListN.{length}
 use Rattle.input.specs.declared.Filled.{Filled}
 
 -- an input that ended did so before the buffer was full
@@ -13,15 +10,3 @@ abbrev pub Within : Filled → List ℕ → Type 0
 Within Filled.Full buffer = Unit {0}
 Within (Filled.Ended n) buffer = n < length buffer
 Within Filled.Failed buffer = Unit {0}
-
--- the record of an input, written into what was `before` and is `after`, and its length
-pub record Record (input before : List ℕ) (n : ℕ) (after : List ℕ) : Type 0 where
-  pub long : n ≡ placedLength (recordOf (sheetOf input .report)) before
-  pub text : after ≡ placed (recordOf (sheetOf input .report)) before
-
--- an input that ended is what was read; one that filled the buffer begins with it, and may go on in any way. Where a read failed
--- nothing is written
-abbrev pub Answers : Filled → List ℕ → List ℕ → ℕ → List ℕ → Type 0
-Answers Filled.Full buffer before n after = (rest : List ℕ) → Record (buffer ++ rest) before n after
-Answers (Filled.Ended k) buffer before n after = Record (take k buffer) before n after
-Answers Filled.Failed buffer before n after = (n ≡ 0) × (after ≡ before)

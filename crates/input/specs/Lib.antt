@@ -1,3 +1,2 @@
 -- The modules of `specs/`.
 pub mod Input
-pub mod InputLaws

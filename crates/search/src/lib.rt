@@ -55,6 +55,6 @@ pub fn quote(o: Opening) -> Quote
     let t = turns(comparisons::magnitude(o.tolerance), distance);
     Quote::Quoted {
         t,
-        most: 2 + (allowed_streak(steps::method_of(o)) + 1) * t,
+        most: 2 + (allowed_streak(methods::method_of(o)) + 1) * t,
     }
 }

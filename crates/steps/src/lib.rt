@@ -2,74 +2,17 @@
 ghost use mathlib.Core.Path.{_≡_};
 ghost use Prim.Native.Nat.{_≤_};
 ghost use Rattle.interpolation.specs.Ranges.{widest};
-ghost use Rattle.rules.specs.Rules.{methodOf, toleranceAt, stoppedOf, stepOf, reachOf, offsetOf, nextOf};
+ghost use Rattle.rules.specs.Rules.{stoppedOf, reachOf, offsetOf, nextOf};
 ghost use Rattle.steps.specs.Ready.{Surveyed, Ready};
 use rules::Bracket;
-use rules::Method;
 use rules::Opening;
 use rules::Step;
-
-// ---- the opening, and rule 2
-
-// The method that an opening's number stands for: 0 is the house default, M.
-pub fn method_of(o: Opening) -> Method
-    ensures { λ r. ⌜ r ≡ methodOf o ⌝ }
-{
-    if comparisons::equal(o.method, 0) {
-        return Method::M;
-    }
-    if comparisons::equal(o.method, 1) {
-        Method::M
-    } else {
-        Method::R
-    }
-}
-
-// The tolerance at the better end b.
-fn tolerance_at(o: Opening, b: u32) -> u32
-    ensures { λ r. ⌜ r ≡ toleranceAt o b ⌝ }
-{
-    comparisons::magnitude(o.tolerance)
-}
 
 // Rule 2: the search stops when L ≤ 2τ.
 pub fn stopped(o: Opening, k: Bracket) -> bool
     ensures { λ r. ⌜ r ≡ stoppedOf o k ⌝ }
 {
-    brackets::width(k) as u64 <= 2 * tolerance_at(o, k.better.point) as u64
-}
-
-// ---- rules 8 and 3
-
-// What M and R use at each streak.
-fn step_at(method: Method, first: bool, streak: u32) -> Step
-    ensures { λ r. ⌜ r ≡ stepOf method first streak ⌝ }
-{
-    match method {
-        Method::M => {
-            if streak <= 1 {
-                return Step::Linear;
-            }
-            if streak == 2 {
-                Step::Rational
-            } else {
-                Step::Bisection
-            }
-        }
-        Method::R => {
-            if first {
-                return Step::Linear;
-            }
-            if streak <= 2 {
-                return Step::Rational;
-            }
-            if streak == 3 {
-                Step::Doubled
-            } else {
-                Step::Bisection
-            }
-        }
-    }
+    brackets::width(k) as u64 <= 2 * methods::tolerance_at(o, k.better.point) as u64
 }
 
 // The displacement that a step takes.
@@ -106,8 +49,8 @@ fn offset(o: Opening, k: Bracket) -> u32
     requires { ⌜ Ready o k ⌝ }
     ensures { λ r. ⌜ r ≡ offsetOf o k ⌝ }
 {
-    let tolerance = tolerance_at(o, k.better.point);
-    let step = step_at(method_of(o), k.taken == 2, k.streak);
+    let tolerance = methods::tolerance_at(o, k.better.point);
+    let step = methods::step_at(methods::method_of(o), k.taken == 2, k.streak);
     reach(tolerance, k, step)
 }
 

@@ -2,10 +2,10 @@
 // read, or the record cannot be written, it says so in words on standard error.
 
 fn main() {
-    let mut text = [0u8; input::ENOUGH];
+    let mut text = [0u8; replies::ENOUGH];
     let mut out = [0u8; printing::LONGEST_RECORD];
     let filled = input::fill(&mut text);
-    let length = input::write_record(filled, &text, &mut out);
+    let length = replies::write_record(filled, &text, &mut out);
     if length == 0 {
         io::write_all(
             2,

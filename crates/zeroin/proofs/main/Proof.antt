@@ -5,7 +5,7 @@ use mathlib.Core.Path.{sym}
 use lib.ListN.{length}
 use lib.Seq.{length-take-le}
 use borrow.Author.Needs.{needs}
-use Rattle.input.specs.InputLaws.{answers-within}
+use Rattle.replies.specs.ReplyLaws.{answers-within}
 use Rattle.zeroin.proofs.main.Statement.{statement}
 use Rattle.zeroin.proofs.main.Tie as tie
 

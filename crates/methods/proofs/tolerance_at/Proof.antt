@@ -1,4 +1,4 @@
--- `steps::tolerance_at` meets its contract: the tolerance is τ wherever the better end lies.
+-- `methods::tolerance_at` meets its contract: the tolerance is τ wherever the better end lies.
 -- Assumes nothing.
 use mathlib.Core.Path.{ap, _∙_}
 use lib.IntN.{natAbs}
@@ -7,8 +7,8 @@ use mir.Val.{SFits}
 use Rattle.integers.specs.Bounds.{read}
 use Rattle.rules.specs.Rules.{toleranceAt}
 use borrow.Author.Needs.{needs}
-use Rattle.steps.proofs.tolerance_at.Statement.{statement}
-use Rattle.steps.proofs.tolerance_at.Tie as tie
+use Rattle.methods.proofs.tolerance_at.Statement.{statement}
+use Rattle.methods.proofs.tolerance_at.Tie as tie
 
 magnitude-requires : tie.Need-magnitude-requires
 magnitude-requires c κs = search needs

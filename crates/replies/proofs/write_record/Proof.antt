@@ -1,4 +1,4 @@
--- `input::write_record` meets its contract: an input that fills the buffer is too long, however it goes on.
+-- `replies::write_record` meets its contract: an input that fills the buffer is too long, however it goes on.
 -- Assumes nothing.
 use Prim.Native.Nat.{_+_, _<_}
 use mathlib.Core.Path.{_≡_, refl, sym, subst}
@@ -7,11 +7,12 @@ use lib.ListN.{length}
 use lib.Seq.{length-take-le}
 use borrow.Author.Needs.{needs}
 use Rattle.forms.specs.Entries.{longestText}
 use Rattle.input.specs.declared.Filled.{Filled}
-use Rattle.input.specs.Input.{Within, Answers}
-use Rattle.input.specs.InputLaws.{goes-on}
-use Rattle.input.proofs.write_record.Statement.{statement}
-use Rattle.input.proofs.write_record.Tie as tie
+use Rattle.input.specs.Input.{Within}
+use Rattle.replies.specs.Reply.{Answers}
+use Rattle.replies.specs.ReplyLaws.{goes-on}
+use Rattle.replies.proofs.write_record.Statement.{statement}
+use Rattle.replies.proofs.write_record.Tie as tie
 
 -- the buffer is longer than the longest text
 long : (c : tie.After-bytes) → length (c .before .before .args .text .now) ≡ longestText + 1

@@ -13,8 +13,8 @@ use Rattle.forms.specs.Entries.{longestText, wholeText, tooLong, refused, entri
 use Rattle.printing.specs.Printed.{recordOf, placed, placedLength}
 use Rattle.printing.specs.PrintedLaws.{written-within}
 use Rattle.outcomes.specs.Sheet.{sheetOf}
 use Rattle.input.specs.declared.Filled.{Filled}
-use Rattle.input.specs.Input.{Record, Answers}
+use Rattle.replies.specs.Reply.{Record, Answers}
 
 entries-long : (text : List ℕ) → longestText < length text → entriesOf text ≡ refused tooLong wholeText
 unfolding entriesOf

@@ -1,10 +1,10 @@
--- `steps::step_at` meets its contract: by the method, the tests come in the definition's order.
+-- `methods::step_at` meets its contract: by the method, the tests come in the definition's order.
 -- Assumes nothing.
 use borrow.Author.Tests.{le-leb, lt-leb, eq-eqb, ne-eqb}
 use Rattle.rules.specs.Rules.{stepOf}
 use borrow.Author.Needs.{needs}
-use Rattle.steps.proofs.step_at.Statement.{statement}
-use Rattle.steps.proofs.step_at.Tie as tie
+use Rattle.methods.proofs.step_at.Statement.{statement}
+use Rattle.methods.proofs.step_at.Tie as tie
 
 enum-told : tie.Need-enum-told
 enum-told c = search needs

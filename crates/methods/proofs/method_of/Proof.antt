@@ -1,4 +1,4 @@
--- `steps::method_of` meets its contract: 0 is the house default, 1 is M, and 2, the only other number accepted, is R.
+-- `methods::method_of` meets its contract: 0 is the house default, 1 is M, and 2, the only other number accepted, is R.
 -- Assumes nothing.
 use mathlib.Core.Path.{_≡_, sym, _∙_}
 use borrow.Author.Needs.{needs}
@@ -8,8 +8,8 @@ use mir.Val.{SFits}
 use Rattle.integers.specs.Signs.{eqZ}
 use Rattle.integers.specs.Bounds.{read}
 use Rattle.rules.specs.Rules.{methodOf}
-use Rattle.steps.proofs.method_of.Statement.{statement}
-use Rattle.steps.proofs.method_of.Tie as tie
+use Rattle.methods.proofs.method_of.Statement.{statement}
+use Rattle.methods.proofs.method_of.Tie as tie
 
 abbrev at1 : tie.After-equal → tie.Start
 at1 c = c .before .before
