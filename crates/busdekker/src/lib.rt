@@ -26,7 +26,7 @@ pub extern "C" fn busdekker_version() -> u32
 pub extern "C" fn busdekker_quote(opening: Opening) -> Quotation
     ensures { λ r. ⌜ r ≡ quotationOf (quoteOf opening) ⌝ }
 {
-    rows::quotation_of(search::quote(opening))
+    asked::quotation(opening)
 }
 
 // Makes the host's search a fresh one of the opening, or refuses that.
@@ -84,8 +84,7 @@ pub extern "C" fn busdekker_ask(search: &Search) -> Row
 pub extern "C" fn busdekker_values(opening: Opening, values: &[i32]) -> Row
     ensures { λ r. ⌜ r ≡ rowOf (reportOf opening (now (values .entry))) ⌝ }
 {
-    let listed = search::report_on(opening, values);
-    rows::row_of(listed)
+    asked::values_row(opening, values)
 }
 
 // The outcome of a trial sheet; the place of a refusal is a record.
@@ -93,7 +92,5 @@ pub extern "C" fn busdekker_values(opening: Opening, values: &[i32]) -> Row
 pub extern "C" fn busdekker_sheet(text: &[u8]) -> Row
     ensures { λ r. ⌜ r ≡ rowOf (sheetOf (now (text .entry)) .report) ⌝ }
 {
-    let outcome = sheet::read_sheet(text);
-    let told = outcome.report;
-    rows::row_of(told)
+    asked::sheet_row(text)
 }

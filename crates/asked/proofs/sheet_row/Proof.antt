@@ -1,11 +1,11 @@
--- `busdekker::busdekker_sheet` meets its contract: the numbers of the report that the text is read as.
+-- `asked::sheet_row` meets its contract: the numbers of the report that the text is read as.
 -- Assumes nothing.
 use mathlib.Core.Path.{ap, _∙_}
 use borrow.Author.Needs.{needs}
 use Rattle.held.specs.declared.Entered.{Entered}
 use Rattle.rules.specs.Rows.{rowOf}
-use Rattle.busdekker.proofs.busdekker_sheet.Statement.{statement}
-use Rattle.busdekker.proofs.busdekker_sheet.Tie as tie
+use Rattle.asked.proofs.sheet_row.Statement.{statement}
+use Rattle.asked.proofs.sheet_row.Tie as tie
 
 read-sheet-requires : tie.Need-read-sheet-requires
 read-sheet-requires c κs = search needs
@@ -16,5 +16,5 @@ row-of-requires c κs = search needs
 returns : tie.Need-returns
 returns c = c .row-of .ensures ∙ ap (λ (e : Entered). rowOf (e .report)) (c .before .read-sheet .ensures)
 
-pub busdekker-sheet-spec : {M : Type 1} → statement M
-busdekker-sheet-spec = tie.close (tie.spec read-sheet-requires row-of-requires returns)
+pub sheet-row-spec : {M : Type 1} → statement M
+sheet-row-spec = tie.close (tie.spec read-sheet-requires row-of-requires returns)
