@@ -15,3 +15,7 @@ comma = 44
 
 abbrev pub minus : ℕ
 minus = 45
+
+-- a field may stand between two of them
+abbrev pub doubleQuote : ℕ
+doubleQuote = 34

@@ -1,10 +1,11 @@
 -- What is read is a sheet: the other way round of ReadingLaws. Every text that is read is a list of rows, a row a list of fields, and
--- a field the bytes of a number: four fields to the opening, two to each answer, and no more answers than slots.
+-- a field the bytes of a number, between double quotes or not: four fields to the opening, two to each answer, and no more answers than
+-- slots; CR LF after each row, or after each but the last.
 -- Assumes nothing.
 use Prim.Native.Nat.{ℕ, zero, suc, _+_, _≤_}
 use mathlib.Core.Path.{_≡_, refl, sym, ap, ap₂, subst, _∙_}
 use mathlib.Core.Bool.{Bool, true, false, cond}
-use mathlib.Core.List.{List, [], _∷_, _++_, map, flatten}
+use mathlib.Core.List.{List, [], _∷_, map, flatten}
 use native.Mathlib.Omega.{arith}
 use lib.ListN.{length}
 use lib.IntN.{ℤ}
@@ -17,12 +18,11 @@ use Rattle.forms.specs.declared.AnswerRecord.{AnswerRecord}
 use Rattle.forms.specs.declared.OpeningRecord.{OpeningRecord}
 use Rattle.forms.specs.declared.Form.{Form}
 use Rattle.forms.specs.declared.Entries.{Entries}
-use Rattle.forms.specs.Text.{recordsOf, wellEnded, bodyOf, fieldsOf}
-use Rattle.forms.specs.Number.{numberOf}
+use Rattle.forms.specs.Text.{recordsOf, bodyOf, fieldsOf}
 use Rattle.forms.specs.Entries.{longestText, tooLong, tooMany, malformed, wholeText, openingPlace, answerPlace}
-use Rattle.forms.specs.Entries.{numbersOf, noneMalformed, areNumbers, integerOf, integerAt, answerOf, openingWith, openingOf}
+use Rattle.forms.specs.Entries.{fieldOf, numbersOf, noneMalformed, areNumbers, integerOf, integerAt, answerOf, openingWith, openingOf}
 use Rattle.forms.specs.Entries.{refused, opened, entered, answersFrom, recordsRead, entriesOf}
-use Rattle.forms.specs.TextLaws.{ended, textOf, records-whole, ended-whole}
+use Rattle.forms.specs.TextLaws.{LineEnd, Lined, recordsWith, records-whole, records-lined}
 use Rattle.forms.specs.FieldLaws.{joined, fields-whole}
 use Rattle.forms.specs.NumberLaws.{both}
 use Rattle.forms.specs.ReadingLaws.{Spells, openingNumbers, SpellsAnswers}
@@ -32,16 +32,16 @@ use Rattle.forms.specs.ReadingLaws.{Spells, openingNumbers, SpellsAnswer
 pub record RecordText (r : List ℕ) (zs : List ℤ) : Type 0 where
   pub fields : List (List ℕ)
   pub spelled : Spells fields zs
-  pub whole : ended (joined fields) ≡ r
+  pub whole : joined fields ≡ bodyOf r
 
 -- fields none of which is malformed are spellings of their numbers
-fields-spelled : (fs : List (List ℕ)) → noneMalformed (map numberOf fs) ≡ true → Spells fs (map integerOf (map numberOf fs))
+fields-spelled : (fs : List (List ℕ)) → noneMalformed (map fieldOf fs) ≡ true → Spells fs (map integerOf (map fieldOf fs))
 fields-spelled [] e = Spells.none
-fields-spelled (f ∷ fs) e = go (numberOf f) refl e (fields-spelled fs)
+fields-spelled (f ∷ fs) e = go (fieldOf f) refl e (fields-spelled fs)
   where
-    go : (n : Number) → numberOf f ≡ n → noneMalformed (n ∷ map numberOf fs) ≡ true
-        → (noneMalformed (map numberOf fs) ≡ true → Spells fs (map integerOf (map numberOf fs)))
-        → Spells (f ∷ fs) (integerOf n ∷ map integerOf (map numberOf fs))
+    go : (n : Number) → fieldOf f ≡ n → noneMalformed (n ∷ map fieldOf fs) ≡ true
+        → (noneMalformed (map fieldOf fs) ≡ true → Spells fs (map integerOf (map fieldOf fs)))
+        → Spells (f ∷ fs) (integerOf n ∷ map integerOf (map fieldOf fs))
     go (Number.Is z) d h more = Spells.more d (more h)
     go Number.Malformed d h more = let n : _≡_ {A = ℕ} 0 1 = cc in absurd (omega arith)
 
@@ -52,25 +52,23 @@ record Made {A : Type 0} (k : ℕ) (r : List ℕ) (make : List Number → A) (a 
   made : make (numbersOf (bodyOf r)) ≡ a
 
 record-read : {A : Type 0} (k : ℕ) (r : List ℕ) (make : List Number → A) (bad a : A) → (bad ≡ a → ⊥)
-    → cond (wellEnded r) (cond (areNumbers k (numbersOf (bodyOf r))) (make (numbersOf (bodyOf r))) bad) bad ≡ a → Made k r make a
-record-read k r make bad a fine = go (wellEnded r) refl (areNumbers k (numbersOf (bodyOf r))) refl
+    → cond (areNumbers k (numbersOf (bodyOf r))) (make (numbersOf (bodyOf r))) bad ≡ a → Made k r make a
+record-read k r make bad a fine = go (areNumbers k (numbersOf (bodyOf r))) refl
   where
-    go : (w : Bool) → wellEnded r ≡ w → (n : Bool) → areNumbers k (numbersOf (bodyOf r)) ≡ n
-        → cond w (cond n (make (numbersOf (bodyOf r))) bad) bad ≡ a → Made k r make a
-    go true w true n e =
+    go : (n : Bool) → areNumbers k (numbersOf (bodyOf r)) ≡ n → cond n (make (numbersOf (bodyOf r))) bad ≡ a → Made k r make a
+    go true n e =
         let h = both (eqb (length (numbersOf (bodyOf r))) k) _ n in
         record {
           text =
               record {
                 fields = fieldsOf (bodyOf r);
                 spelled = fields-spelled (fieldsOf (bodyOf r)) (h .1);
-                whole = ap ended (fields-whole (bodyOf r)) ∙ ended-whole r w;
+                whole = fields-whole (bodyOf r);
               };
           count = eqb-true _ k (h .0);
           made = e;
         }
-    go true w false n e = absurd (fine e)
-    go false w n f e = absurd (fine e)
+    go false n e = absurd (fine e)
 
 -- the integers at k places, from place i on
 abbrev integersFrom : ℕ → ℕ → List Number → List ℤ
@@ -115,18 +113,17 @@ pub record RecordsText (rs : List (List ℕ)) : Type 0 where
   pub points : List ℤ
   pub values : List ℤ
   pub spelled : SpellsAnswers rows points values
-  pub whole : textOf (map joined rows) ≡ flatten rs
+  pub whole : map joined rows ≡ map bodyOf rs
   pub count : length rows ≡ length rs
 
 more-rows : (r : List ℕ) (rs : List (List ℕ)) (point value : ℤ) → RecordText r (point ∷ value ∷ []) → RecordsText rs → RecordsText (r ∷ rs)
-unfolding flatten
 more-rows r rs point value a k =
     record {
       rows = a .fields ∷ k .rows;
       points = point ∷ k .points;
       values = value ∷ k .values;
       spelled = SpellsAnswers.one-answer (a .spelled) (k .spelled);
-      whole = ap₂ (λ (s t : List ℕ). s ++ t) (a .whole) (k .whole);
+      whole = ap₂ (λ (b : List ℕ) (bs : List (List ℕ)). b ∷ bs) (a .whole) (k .whole);
       count = ap suc (k .count);
     }
 
@@ -140,7 +137,7 @@ unfolding refused
 no-refusal n k e = let z : _≡_ {A = ℕ} 0 1 = cc in absurd (omega arith)
 
 answers-taken : (e : Entries) (rs : List (List ℕ)) → e .count ≤ slots → answersFrom e rs .form ≡ Form.Read → AnswersTaken e rs
-unfolding answersFrom entered flatten
+unfolding answersFrom entered
 answers-taken e [] h f =
     record {
       rows = record { rows = []; points = []; values = []; spelled = SpellsAnswers.no-answer; whole = refl; count = refl };
@@ -169,36 +166,43 @@ pub record Laid (text : List ℕ) : Type 0 where
   pub rows : List (List (List ℕ))
   pub points : List ℤ
   pub values : List ℤ
+  pub end : List ℕ
   pub spelled-head : Spells head (openingNumbers opening)
   pub spelled-rows : SpellsAnswers rows points values
+  pub line-end : LineEnd end
   pub few : length rows ≤ slots
-  pub whole : textOf (map joined (head ∷ rows)) ≡ text
+  pub whole : flatten (recordsWith end (map joined (head ∷ rows))) ≡ text
 
-laid : (r : List ℕ) (rs : List (List ℕ)) (o : Opening) → RecordText r (openingNumbers o) → AnswersTaken (opened o) rs → Laid (flatten (r ∷ rs))
-unfolding flatten opened
-laid r rs o h t =
+laid : (r : List ℕ) (rs : List (List ℕ)) (o : Opening) → Lined (r ∷ rs) → RecordText r (openingNumbers o) → AnswersTaken (opened o) rs
+    → Laid (flatten (r ∷ rs))
+unfolding opened
+laid r rs o l h t =
+    let bodies : map joined (h .fields ∷ t .rows .rows) ≡ map bodyOf (r ∷ rs) =
+    ap₂ (λ (b : List ℕ) (bs : List (List ℕ)). b ∷ bs) (h .whole) (t .rows .whole) in
     record {
       opening = o;
       head = h .fields;
       rows = t .rows .rows;
       points = t .rows .points;
       values = t .rows .values;
+      end = l .end;
       spelled-head = h .spelled;
       spelled-rows = t .rows .spelled;
+      line-end = l .line-end;
       few = omega (arith, t .few, t .rows .count);
-      whole = ap₂ (λ (s t : List ℕ). s ++ t) (h .whole) (t .rows .whole);
+      whole = ap flatten (ap (recordsWith (l .end)) bodies ∙ l .whole);
     }
 
-records-laid : (rs : List (List ℕ)) → recordsRead rs .form ≡ Form.Read → Laid (flatten rs)
+records-laid : (rs : List (List ℕ)) → Lined rs → recordsRead rs .form ≡ Form.Read → Laid (flatten rs)
 unfolding recordsRead opened
-records-laid [] f = no-refusal _ _ f
-records-laid (r ∷ rs) f = go (openingOf r) refl f
+records-laid [] l f = no-refusal _ _ f
+records-laid (r ∷ rs) l f = go (openingOf r) refl f
   where
     go : (a : OpeningRecord) → openingOf r ≡ a
         → elim a as (λ x. Entries) [ OpeningRecord.Opened o ↦ answersFrom (opened o) rs | OpeningRecord.Malformed ↦ refused malformed openingPlace ]
         .form ≡ Form.Read
         → Laid (flatten (r ∷ rs))
-    go (OpeningRecord.Opened o) d f = laid r rs o (opening-record r o d) (answers-taken (opened o) rs (omega arith) f)
+    go (OpeningRecord.Opened o) d f = laid r rs o l (opening-record r o d) (answers-taken (opened o) rs (omega arith) f)
     go OpeningRecord.Malformed d f = no-refusal _ _ f
 
 pub entries-laid : (text : List ℕ) → entriesOf text .form ≡ Form.Read → Laid text
@@ -207,4 +211,4 @@ entries-laid text = go (ltb longestText (length text))
   where
     go : (b : Bool) → cond b (refused tooLong wholeText) (recordsRead (recordsOf text)) .form ≡ Form.Read → Laid text
     go true f = no-refusal _ _ f
-    go false f = subst Laid (records-whole text) (records-laid (recordsOf text) f)
+    go false f = subst Laid (records-whole text) (records-laid (recordsOf text) (records-lined text) f)

@@ -3,7 +3,7 @@
 -- Assumes nothing.
 use Prim.Native.Nat.{ℕ, _≤_}
 use mathlib.Core.Path.{_≡_, refl}
-use mathlib.Core.List.{List, [], _∷_, map}
+use mathlib.Core.List.{List, [], _∷_, _++_, map}
 use native.Mathlib.Omega.{arith}
 use lib.IntN.{ℤ, pos}
 use lib.ListN.{length, take}
@@ -19,7 +19,7 @@ use Rattle.rules.specs.Search.{turnsOf, mostOf, beginOf, offerOf, takeOf, progr
 use Rattle.held.specs.Held.{freshOf, standingOf, heldReport, enterOf}
 use Rattle.forms.specs.Examples.{bytes, upTo100, negative}
 use Rattle.journal.specs.Answers.{Answer}
-use Rattle.journal.specs.Spelling.{digit, Digits, Numeral, AnswersText, SheetText}
+use Rattle.journal.specs.Spelling.{digit, Digits, Numeral, Field, AnswersText, SheetText}
 use Rattle.journal.specs.Journal.{stopOf, pointCalled, journalReport, refusalOf, journalWith, toldOf, journalAfter, toldAll, bracketsOf}
 use Rattle.journal.specs.Run.{Call, byValue, into, offered, reportsOf, searchAfter, journalOf}
 
@@ -128,13 +128,28 @@ hundred = Numeral.plain (Digits.more (Digits.more (Digits.one 1 (omega arith)) 0
 minus-fifty : Numeral (bytes "-50") (negative 50)
 minus-fifty = Numeral.negated (Digits.more (Digits.one 5 (omega arith)) 0 (omega arith)) (omega arith)
 
+-- ---- fields and their bytes
+
+enclosed-fifty : Field (bytes "\"-50\"") (negative 50)
+enclosed-fifty = Field.enclosed minus-fifty
+
 -- ---- sheets and their bytes
 
-no-answer : SheetText (bytes "1,0,100,1\r\n") upTo100 []
-no-answer = SheetText.sheet (one-digit 1 (omega arith)) (one-digit 0 (omega arith)) hundred (one-digit 1 (omega arith)) AnswersText.none
+-- an opening alone, with its line end and without
+no-answer : {t : List ℕ} → AnswersText t [] → SheetText (bytes "1,0,100,1" ++ t) upTo100 []
+no-answer r =
+    SheetText.sheet (Field.bare (one-digit 1 (omega arith))) (Field.bare (one-digit 0 (omega arith))) (Field.bare hundred)
+    (Field.bare (one-digit 1 (omega arith))) r
 
--- with −0 and with leading zeros
-two-answers : SheetText (bytes "1,-0,100,1\r\n-0,-50\r\n100,00042\r\n") upTo100 (answer (pos 0) (negative 50) ∷ answer (pos 100) (pos 42) ∷ [])
+opening-ended : SheetText (bytes "1,0,100,1\r\n") upTo100 []
+opening-ended = no-answer AnswersText.ended
+
+opening-unended : SheetText (bytes "1,0,100,1") upTo100 []
+opening-unended = no-answer AnswersText.unended
+
+-- with −0, with leading zeros, and with some fields between double quotes; the last line end is absent
+two-answers : SheetText (bytes "1,-0,\"100\",1\r\n-0,\"-50\"\r\n100,00042") upTo100 (answer (pos 0) (negative 50) ∷ answer (pos 100) (pos 42) ∷ [])
 two-answers =
-    SheetText.sheet (one-digit 1 (omega arith)) minus-zero hundred (one-digit 1 (omega arith))
-    (AnswersText.next minus-zero minus-fifty (AnswersText.next hundred leading-zeros AnswersText.none))
+    SheetText.sheet (Field.bare (one-digit 1 (omega arith))) (Field.bare minus-zero) (Field.enclosed hundred) (Field.bare (one-digit 1 (omega arith)))
+    (AnswersText.next (Field.bare minus-zero) enclosed-fifty
+    (AnswersText.next (Field.bare hundred) (Field.bare leading-zeros) AnswersText.unended))

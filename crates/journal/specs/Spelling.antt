@@ -1,12 +1,13 @@
--- The spelling of a trial sheet, as document 01 says it under "Held searches and sheets": which bytes spell which numbers. It is a
--- relation of its own between bytes and numbers, and knows nothing of how a sheet is read. A text is the list of its bytes.
+-- The spelling of a trial sheet, as document 01 says it under "Held searches and sheets", with line ends and quotes as request 2026-01
+-- has them: which bytes spell which numbers. It is a relation of its own between bytes and numbers, and knows nothing of how a sheet is
+-- read. A text is the list of its bytes.
 -- Assumes nothing.
 use Prim.Native.Nat.{ℕ, _+_, _*_, _≤_}
 use mathlib.Core.List.{List, [], _∷_, _++_}
 use lib.ListN.{length}
 use lib.IntN.{ℤ, pos, negℤ}
 use Rattle.rules.specs.declared.Opening.{Opening}
-use Rattle.forms.specs.Bytes.{cr, lf, comma, minus}
+use Rattle.forms.specs.Bytes.{cr, lf, comma, minus, doubleQuote}
 use Rattle.journal.specs.Answers.{Answer}
 
 -- ---- numbers
@@ -23,21 +24,27 @@ pub data Digits : List ℕ → ℕ → Type 0 where
 abbrev pub mostDigits : ℕ
 mostDigits = 5
 
--- A number is an optional minus and 1 to 5 digits; leading zeros and −0 are taken. Fields are not quoted.
+-- A number is an optional minus and 1 to 5 digits; leading zeros and −0 are taken.
 pub data Numeral : List ℕ → ℤ → Type 0 where
   plain : {s : List ℕ} {n : ℕ} → Digits s n → length s ≤ mostDigits → Numeral s (pos n)
   negated : {s : List ℕ} {n : ℕ} → Digits s n → length s ≤ mostDigits → Numeral (minus ∷ s) (negℤ (pos n))
 
+-- A field is a number, or stands between two double quotes, with only a number between them.
+pub data Field : List ℕ → ℤ → Type 0 where
+  bare : {s : List ℕ} {z : ℤ} → Numeral s z → Field s z
+  enclosed : {s : List ℕ} {z : ℤ} → Numeral s z → Field (doubleQuote ∷ s ++ doubleQuote ∷ []) z
+
 -- ---- records
 
--- Each later record is point,value. Each record, the last included, ends with CR LF.
+-- Each later record is point,value, and stands after the CR LF of the one before. The last record's CR LF is optional.
 pub data AnswersText : List ℕ → List Answer → Type 0 where
-  none : AnswersText [] []
-  next : {f g t : List ℕ} {a : Answer} {answers : List Answer} → Numeral f (a .point) → Numeral g (a .value) → AnswersText t answers
-      → AnswersText (f ++ comma ∷ g ++ cr ∷ lf ∷ t) (a ∷ answers)
+  unended : AnswersText [] []
+  ended : AnswersText (cr ∷ lf ∷ []) []
+  next : {f g t : List ℕ} {a : Answer} {answers : List Answer} → Field f (a .point) → Field g (a .value) → AnswersText t answers
+      → AnswersText (cr ∷ lf ∷ f ++ comma ∷ g ++ t) (a ∷ answers)
 
 -- The first record is method,x0,x1,τ. There is no header.
 pub data SheetText : List ℕ → Opening → List Answer → Type 0 where
   sheet : {f g h k t : List ℕ} {o : Opening} {answers : List Answer}
-      → Numeral f (o .method) → Numeral g (o .first) → Numeral h (o .second) → Numeral k (o .tolerance) → AnswersText t answers
-      → SheetText (f ++ comma ∷ g ++ comma ∷ h ++ comma ∷ k ++ cr ∷ lf ∷ t) o answers
+      → Field f (o .method) → Field g (o .first) → Field h (o .second) → Field k (o .tolerance) → AnswersText t answers
+      → SheetText (f ++ comma ∷ g ++ comma ∷ h ++ comma ∷ k ++ t) o answers

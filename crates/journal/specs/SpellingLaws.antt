@@ -4,7 +4,7 @@
 use Prim.Native.Nat.{ℕ, zero, suc, _+_, _-_, _*_, _/_, _%_, _^_, _≤_, _<_}
 use mathlib.Core.Path.{_≡_, refl, sym, ap, subst, subst₂, _∙_}
 use mathlib.Core.Bool.{true}
-use mathlib.Core.List.{List, [], _∷_, _++_, map, append-nil, append-assoc}
+use mathlib.Core.List.{List, [], _∷_, _++_, map, flatten, append-nil, append-assoc}
 use native.Mathlib.Nat.{pow-suc, div-add-mod'}
 use native.Mathlib.Omega.{arith}
 use lib.ListN.{length, take, length-append, length-map}
@@ -18,14 +18,14 @@ use Rattle.forms.specs.declared.Entries.{Entries}
 use Rattle.forms.specs.Bytes.{cr, lf, comma}
 use Rattle.forms.specs.Number.{isDigit, allDigits, valueFrom, valueOf, numberOf}
 use Rattle.forms.specs.NumberLaws.{digit-bytes, bytes-digit, digits-head, digits-last, value-last, numeral, IsNumeral, digits-read, minus-read}
-use Rattle.forms.specs.NumberLaws.{NumberText, number-text}
-use Rattle.forms.specs.TextLaws.{ended, textOf}
-use Rattle.forms.specs.FieldLaws.{joined}
-use Rattle.forms.specs.Entries.{filled, entriesOf}
+use Rattle.forms.specs.NumberLaws.{NumberText}
+use Rattle.forms.specs.TextLaws.{LineEnd, after, recordsWith}
+use Rattle.forms.specs.FieldLaws.{FieldText, joined, number-field, enclosed-field, field-text}
+use Rattle.forms.specs.Entries.{fieldOf, filled, entriesOf}
 use Rattle.forms.specs.ReadingLaws.{Spells, openingNumbers, SpellsAnswers, entries-read}
 use Rattle.forms.specs.TakenLaws.{Laid, entries-laid}
 use Rattle.journal.specs.Answers.{Answer, points, values}
-use Rattle.journal.specs.Spelling.{digit, Digits, Numeral, AnswersText, SheetText}
+use Rattle.journal.specs.Spelling.{digit, Digits, Numeral, Field, AnswersText, SheetText}
 use Rattle.journal.specs.Reading.{ReadAs, Reading}
 
 -- ---- a numeral is read as its number
@@ -78,53 +78,90 @@ number-numeral : {f : List ℕ} {z : ℤ} → NumberText f z → Numeral f z
 number-numeral (NumberText.plain {s} n) = Numeral.plain (digits-of-value s n) (omega (arith, n .few))
 number-numeral (NumberText.negated {s} n) = Numeral.negated (digits-of-value s n) (omega (arith, n .few))
 
-pub read-numeral : {f : List ℕ} {z : ℤ} → numberOf f ≡ Number.Is z → Numeral f z
-read-numeral {f} {z} e = number-numeral (number-text f z e)
+-- ---- a field is read as its number, and what is read as a number is its field
+
+pub field-read : {f : List ℕ} {z : ℤ} → Field f z → fieldOf f ≡ Number.Is z
+field-read (Field.bare {s} {z} n) = number-field s z (numeral-read n)
+field-read (Field.enclosed {s} {z} n) = enclosed-field s z (numeral-read n)
+
+text-field : {f : List ℕ} {z : ℤ} → FieldText f z → Field f z
+text-field (FieldText.bare n) = Field.bare (number-numeral n)
+text-field (FieldText.enclosed n) = Field.enclosed (number-numeral n)
+
+pub read-field : {f : List ℕ} {z : ℤ} → fieldOf f ≡ Number.Is z → Field f z
+read-field {f} {z} e = text-field (field-text f z e)
 
 -- ---- a text is read as its numbers
 
--- a text of answers falls into rows of fields
+-- what stands after a record with the bodies bs behind it: its own line end, and theirs
+abbrev behind : List ℕ → List (List (List ℕ)) → List ℕ
+behind end rows = after end (map joined rows) ++ flatten (recordsWith end (map joined rows))
+
+-- one record more
+behind-more : (end : List ℕ) (row : List (List ℕ)) (rows : List (List (List ℕ))) → behind end (row ∷ rows) ≡ cr ∷ lf ∷ joined row ++ behind end rows
+unfolding flatten
+behind-more end row rows =
+    ap (λ (t : List ℕ). cr ∷ lf ∷ t) (append-assoc (joined row) (after end (map joined rows)) (flatten (recordsWith end (map joined rows))))
+
+-- the text after the first record falls into rows of fields
 record Fielded (t : List ℕ) (answers : List Answer) : Type 0 where
   rows : List (List (List ℕ))
   spelled : SpellsAnswers rows (points answers) (values answers)
-  text : textOf (map joined rows) ≡ t
+  end : List ℕ
+  line-end : LineEnd end
+  text : behind end rows ≡ t
   count : length rows ≡ length answers
 
 answers-fielded : {t : List ℕ} {answers : List Answer} → AnswersText t answers → Fielded t answers
-answers-fielded AnswersText.none = record { rows = []; spelled = SpellsAnswers.no-answer; text = refl; count = refl }
+unfolding flatten
+answers-fielded AnswersText.unended =
+    record { rows = []; spelled = SpellsAnswers.no-answer; end = []; line-end = LineEnd.absent; text = refl; count = refl }
+answers-fielded AnswersText.ended =
+    record { rows = []; spelled = SpellsAnswers.no-answer; end = cr ∷ lf ∷ []; line-end = LineEnd.present; text = refl; count = refl }
 answers-fielded (AnswersText.next {f} {g} p v r) =
     let k = answers-fielded r in
     record {
       rows = (f ∷ g ∷ []) ∷ k .rows;
-      spelled = SpellsAnswers.one-answer (Spells.more (numeral-read p) (Spells.more (numeral-read v) Spells.none)) (k .spelled);
-      text = simp (append-assoc, k .text);
+      spelled = SpellsAnswers.one-answer (Spells.more (field-read p) (Spells.more (field-read v) Spells.none)) (k .spelled);
+      end = k .end;
+      line-end = k .line-end;
+      text = behind-more (k .end) (f ∷ g ∷ []) (k .rows) ∙ ap (λ (t : List ℕ). cr ∷ lf ∷ f ++ comma ∷ g ++ t) (k .text);
       count = ap suc (k .count);
     }
 
+-- the whole text is the first row and what stands after it
+whole-text : (end : List ℕ) (head : List (List ℕ)) (rows : List (List (List ℕ)))
+    → flatten (recordsWith end (map joined (head ∷ rows))) ≡ joined head ++ behind end rows
+unfolding flatten
+whole-text end head rows = append-assoc (joined head) (after end (map joined rows)) (flatten (recordsWith end (map joined rows)))
+
 -- a sheet in any spelling is read as its numbers
 pub spelled-read : {t : List ℕ} {o : Opening} {answers : List Answer} → SheetText t o answers → length answers ≤ slots → ReadAs t o answers
+unfolding flatten
 spelled-read (SheetText.sheet {o = o} m x y w r) l =
     let a = answers-fielded r in
-    let row = Spells.more (numeral-read m) (Spells.more (numeral-read x) (Spells.more (numeral-read y) (Spells.more (numeral-read w) Spells.none))) in
-    simp append-assoc (simp (append-assoc, a .text) at (entries-read o row (a .spelled) (omega arith)))
+    let row = Spells.more (field-read m) (Spells.more (field-read x) (Spells.more (field-read y) (Spells.more (field-read w) Spells.none))) in
+    simp append-assoc (simp (append-assoc, a .text) at (entries-read o (a .line-end) row (a .spelled) (omega arith)))
 
 -- ---- and what is read is spelled
 
 -- rows of fields are a text of answers
-record Answered (rows : List (List (List ℕ))) : Type 0 where
+record Answered (end : List ℕ) (rows : List (List (List ℕ))) : Type 0 where
   answers : List Answer
-  text : AnswersText (textOf (map joined rows)) answers
+  text : AnswersText (behind end rows) answers
   count : length answers ≡ length rows
 
-rows-answered : {rows : List (List (List ℕ))} {ps vs : List ℤ} → SpellsAnswers rows ps vs → Answered rows
-rows-answered SpellsAnswers.no-answer = record { answers = []; text = AnswersText.none; count = refl }
-rows-answered (SpellsAnswers.one-answer {rows = rows} {point = p} {value = v} (Spells.more {f} e (Spells.more {f = g} d Spells.none)) h) =
-    let k = rows-answered h in
+rows-answered : {end : List ℕ} → LineEnd end → {rows : List (List (List ℕ))} {ps vs : List ℤ} → SpellsAnswers rows ps vs → Answered end rows
+unfolding flatten
+rows-answered LineEnd.present SpellsAnswers.no-answer = record { answers = []; text = AnswersText.ended; count = refl }
+rows-answered LineEnd.absent SpellsAnswers.no-answer = record { answers = []; text = AnswersText.unended; count = refl }
+rows-answered {end} l (SpellsAnswers.one-answer {rows = rows} {point = p} {value = v} (Spells.more {f} e (Spells.more {f = g} d Spells.none)) h) =
+    let k = rows-answered l h in
     let a : Answer = record { point = p; value = v } in
-    let t = AnswersText.next {a = a} (read-numeral e) (read-numeral d) (k .text) in
+    let t = AnswersText.next {f = f} {g = g} {a = a} (read-field e) (read-field d) (k .text) in
     record {
       answers = a ∷ k .answers;
-      text = subst (λ (s : List ℕ). AnswersText s (a ∷ k .answers)) (sym (append-assoc (f ++ comma ∷ g) (cr ∷ lf ∷ []) (textOf (map joined rows)))) t;
+      text = subst (λ (s : List ℕ). AnswersText s (a ∷ k .answers)) (sym (behind-more end (f ∷ g ∷ []) rows)) t;
       count = ap suc (k .count);
     }
 
@@ -136,17 +173,18 @@ pub record Spelled (text : List ℕ) : Type 0 where
   pub few : length answers ≤ slots
 
 head-spelled : {head : List (List ℕ)} {t : List ℕ} (o : Opening) {answers : List Answer}
-    → Spells head (openingNumbers o) → AnswersText t answers → SheetText (ended (joined head) ++ t) o answers
+    → Spells head (openingNumbers o) → AnswersText t answers → SheetText (joined head ++ t) o answers
 head-spelled o (Spells.more m (Spells.more x (Spells.more y (Spells.more w Spells.none)))) a =
-    simp append-assoc (simp append-assoc at (SheetText.sheet {o = o} (read-numeral m) (read-numeral x) (read-numeral y) (read-numeral w) a))
+    simp append-assoc (simp append-assoc at (SheetText.sheet {o = o} (read-field m) (read-field x) (read-field y) (read-field w) a))
 
 laid-spelled : {text : List ℕ} → Laid text → Spelled text
 laid-spelled l =
-    let k = rows-answered (l .spelled-rows) in
+    let k = rows-answered (l .line-end) (l .spelled-rows) in
+    let whole = sym (whole-text (l .end) (l .head) (l .rows)) ∙ l .whole in
     record {
       opening = l .opening;
       answers = k .answers;
-      spells = subst (λ (t : List ℕ). SheetText t (l .opening) (k .answers)) (l .whole) (head-spelled (l .opening) (l .spelled-head) (k .text));
+      spells = subst (λ (t : List ℕ). SheetText t (l .opening) (k .answers)) whole (head-spelled (l .opening) (l .spelled-head) (k .text));
       few = omega (arith, l .few, k .count);
     }
 
@@ -225,9 +263,9 @@ numeral-of (negsuc n) h =
     (_, Numeral.negated (r .1) (omega (arith, r .2)))
 
 answers-text : (answers : List Answer) → SpellableAnswers answers → (t : List ℕ) × AnswersText t answers
-answers-text [] h = (_, AnswersText.none)
+answers-text [] h = (_, AnswersText.ended)
 answers-text (a ∷ answers) h =
-    (_, AnswersText.next (numeral-of (a .point) (h .0) .1) (numeral-of (a .value) (h .1) .1) (answers-text answers (h .2) .1))
+    (_, AnswersText.next (Field.bare (numeral-of (a .point) (h .0) .1)) (Field.bare (numeral-of (a .value) (h .1) .1)) (answers-text answers (h .2) .1))
 
 pub has-text : (o : Opening) (answers : List Answer) → SpellableOpening o → SpellableAnswers answers → (t : List ℕ) × SheetText t o answers
 has-text o answers h k =
@@ -235,4 +273,4 @@ has-text o answers h k =
     let x = numeral-of (o .first) (h .first) in
     let y = numeral-of (o .second) (h .second) in
     let w = numeral-of (o .tolerance) (h .tolerance) in
-    (_, SheetText.sheet (m .1) (x .1) (y .1) (w .1) (answers-text answers k .1))
+    (_, SheetText.sheet (Field.bare (m .1)) (Field.bare (x .1)) (Field.bare (y .1)) (Field.bare (w .1)) (answers-text answers k .1))

@@ -15,7 +15,7 @@ use Rattle.held.specs.declared.Entered.{Entered}
 use Rattle.held.specs.Held.{blank}
 use Rattle.forms.specs.Text.{recordsOf, fieldsOf}
 use Rattle.forms.specs.Number.{allDigits, valueFrom, signedOf, numberOf}
-use Rattle.forms.specs.Entries.{answerOf, openingOf, refused, opened, entered, answersFrom, recordsRead, entriesOf}
+use Rattle.forms.specs.Entries.{fieldOf, answerOf, openingOf, refused, opened, entered, answersFrom, recordsRead, entriesOf}
 use Rattle.forms.specs.Examples.{bytes, upTo100, negative}
 use Rattle.outcomes.specs.Sheet.{outcomeOf, sheetOf}
 
@@ -37,6 +37,9 @@ examples =
     held "1,0,100,1\r\n" 0 [] (Report.Next 0 0)
     ∷ held "1,0,100,1\r\n0,-50\r\n100,100\r\n33,-10\r\n41,-2\r\n43,1\r\n" 5 (negative 50 ∷ pos 100 ∷ negative 10 ∷ negative 2 ∷ pos 1 ∷ [])
     (Report.Stop 41 43 43 5)
+    -- the same as a spreadsheet may save it: fields between double quotes, and no CR LF at the end
+    ∷ held "\"1\",\"0\",\"100\",\"1\"\r\n0,\"-50\"\r\n100,100\r\n33,\"-10\"\r\n41,\"-2\"\r\n43,1" 5
+    (negative 50 ∷ pos 100 ∷ negative 10 ∷ negative 2 ∷ pos 1 ∷ []) (Report.Stop 41 43 43 5)
     -- with 42,1 last
     ∷ refuses "1,0,100,1\r\n0,-50\r\n100,100\r\n33,-10\r\n41,-2\r\n42,1\r\n" 6 6
     -- the form of every record comes before the opening, and the opening before the answers
@@ -53,6 +56,6 @@ AllCome (e ∷ es) = (sheetOf (e .text) ≡ e .outcome) × AllCome es
 examples-hold : AllCome examples
 unfolding methodOf toleranceAt startOf stoppedOf forwardOf displacementOf linearOf crossOf rationalOf doubledOf opposed partnerOf streakOf
     renewedOf advanceOf stepOf reachOf offsetOf nextOf openingRefusal answerRefusal sameSide beginOf offerOf answersOf bracketReport reportAt
-    recordsOf fieldsOf allDigits valueFrom signedOf numberOf answerOf openingOf refused opened entered answersFrom recordsRead entriesOf
+    recordsOf fieldsOf allDigits valueFrom signedOf numberOf fieldOf answerOf openingOf refused opened entered answersFrom recordsRead entriesOf
     outcomeOf sheetOf
-examples-hold = (refl, (refl, (refl, (refl, (refl, (refl, tt))))))
+examples-hold = (refl, (refl, (refl, (refl, (refl, (refl, (refl, tt)))))))
