@@ -20,6 +20,9 @@ const RUNS: usize = 250_000;
 const HELD: usize = 250_000;
 const SHEETS: usize = 600_000;
 
+/// The longest of the ends of a sheet that are all tried.
+const ENDING: u32 = 7;
+
 /// The states that the beam keeps, for the widest search and for each of the others.
 const WIDE: usize = 1_500;
 const NARROW: usize = 20;
@@ -59,11 +62,12 @@ fn main() -> ExitCode {
 /// All parts in turn, and the number of cases.
 fn compare(rng: &mut Rng) -> Result<u64, String> {
     let mut cases = 0;
-    let parts: [(&str, Part); 6] = [
+    let parts: [(&str, Part); 7] = [
         ("lists of values", lists),
         ("runs of the trial book, from a fresh search", runs),
         ("calls in a row on searches that hold anything", held),
         ("sheets", any_sheets),
+        ("sheets that end in every short way", every_ending),
         ("orders of values that make searches long", long_orders),
         ("quotes", quotes),
     ];
@@ -388,12 +392,29 @@ fn any_call(search: &Search, rng: &mut Rng) -> Call {
 /// Sheets, whole and damaged.
 fn any_sheets(rng: &mut Rng, tally: &mut Tally) -> Checked {
     for _ in 0..SHEETS {
-        let text = sheets::any_text(rng);
-        let (model, library) = (model::sheet(&text), ffi::sheet(&text));
-        agree(model, library, || sheets::show(&text))?;
-        tally.count(&library);
-        tally.cases += 1;
+        sheet_agrees(&sheets::any_text(rng), tally)?;
     }
+    Ok(())
+}
+
+/// The last field of an opening and of an answer, and what may stand after it: every text of up to
+/// `ENDING` bytes of those that sheets are made of.
+fn every_ending(_: &mut Rng, tally: &mut Tally) -> Checked {
+    for start in [&b"1,0,100,"[..], b"1,0,100,1\r\n0,"] {
+        for length in 0..=ENDING {
+            for which in 0..sheets::BYTES.len().pow(length) {
+                sheet_agrees(&[start, &sheets::ending(which, length)].concat(), tally)?;
+            }
+        }
+    }
+    Ok(())
+}
+
+fn sheet_agrees(text: &[u8], tally: &mut Tally) -> Checked {
+    let (model, library) = (model::sheet(text), ffi::sheet(text));
+    agree(model, library, || sheets::show(text))?;
+    tally.count(&library);
+    tally.cases += 1;
     Ok(())
 }
 

@@ -497,11 +497,20 @@ fn records(text: &[u8]) -> Vec<&[u8]> {
     list
 }
 
-/// The numbers of a record that ends with CR LF and has so many fields.
+/// The numbers of a record that has so many fields. Only the last record can lack its CR LF, and there
+/// it is optional.
 fn row(record: &[u8], fields: usize) -> Option<Vec<i32>> {
-    let line = record.strip_suffix(b"\r\n")?;
-    let row: Option<Vec<i32>> = line.split(|&byte| byte == b',').map(number).collect();
+    let line = record.strip_suffix(b"\r\n").unwrap_or(record);
+    let row: Option<Vec<i32>> = line.split(|&byte| byte == b',').map(field).collect();
     row.filter(|row| row.len() == fields)
+}
+
+/// A number, or one between two double quotes.
+fn field(field: &[u8]) -> Option<i32> {
+    match field {
+        [b'"', inner @ .., b'"'] => number(inner),
+        _ => number(field),
+    }
 }
 
 /// An optional minus and 1 to 5 digits.

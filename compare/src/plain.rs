@@ -363,21 +363,47 @@ struct Reader<'a> {
 
 impl Reader<'_> {
     fn opening(&mut self) -> Option<Opening> {
-        let method = self.number(b",")?;
-        let first = self.number(b",")?;
-        let second = self.number(b",")?;
-        let tolerance = self.number(b"\r\n")?;
+        let method = self.field()?;
+        let first = self.field()?;
+        let second = self.field()?;
+        let tolerance = self.last_field()?;
         Some(Opening::new(method, first, second, tolerance))
     }
 
     fn answer(&mut self) -> Option<(i32, i32)> {
-        let point = self.number(b",")?;
-        let value = self.number(b"\r\n")?;
+        let point = self.field()?;
+        let value = self.last_field()?;
         Some((point, value))
     }
 
-    /// A number and the mark that must follow it.
-    fn number(&mut self, mark: &[u8]) -> Option<i32> {
+    /// A field and the comma after it.
+    fn field(&mut self) -> Option<i32> {
+        let number = self.unquoted()?;
+        self.rest = self.rest.strip_prefix(b",")?;
+        Some(number)
+    }
+
+    /// The last field of a record and its CR LF, or the end of the text.
+    fn last_field(&mut self) -> Option<i32> {
+        let number = self.unquoted()?;
+        if !self.rest.is_empty() {
+            self.rest = self.rest.strip_prefix(b"\r\n")?;
+        }
+        Some(number)
+    }
+
+    /// A number, or one between two double quotes.
+    fn unquoted(&mut self) -> Option<i32> {
+        let [b'"', rest @ ..] = self.rest else {
+            return self.number();
+        };
+        self.rest = rest;
+        let number = self.number()?;
+        self.rest = self.rest.strip_prefix(b"\"")?;
+        Some(number)
+    }
+
+    fn number(&mut self) -> Option<i32> {
         let (minus, rest) = match self.rest {
             [b'-', rest @ ..] => (true, rest),
             rest => (false, rest),
@@ -394,7 +420,7 @@ impl Reader<'_> {
         if digits == 0 {
             return None;
         }
-        self.rest = rest[digits..].strip_prefix(mark)?;
+        self.rest = &rest[digits..];
         Some(if minus { -size } else { size })
     }
 }

@@ -13,13 +13,28 @@ pub fn write(opening: &Opening, answers: &[(i32, i32)]) -> Vec<u8> {
     records(opening, answers, &mut |n| n.to_string()).concat()
 }
 
-/// The same in some spelling that the reader takes: leading zeros and −0.
+/// The same in some spelling that the reader takes: leading zeros, −0, quotes, and no CR LF at the end.
 pub fn write_spelt(opening: &Opening, answers: &[(i32, i32)], rng: &mut Rng) -> Vec<u8> {
-    spelt(opening, answers, rng).concat()
+    joined(&spelt(opening, answers, rng), rng)
 }
 
+/// Each record with its CR LF.
 fn spelt(opening: &Opening, answers: &[(i32, i32)], rng: &mut Rng) -> Vec<Record> {
-    records(opening, answers, &mut |n| spell(n, rng))
+    // no field between quotes, some, or all
+    let bare = rng.below(3);
+    records(opening, answers, &mut |n| match spell(n, rng) {
+        field if bare == 0 || (bare == 1 && rng.once_in(2)) => field,
+        field => format!("\"{field}\""),
+    })
+}
+
+/// The records one after the other, the last with its CR LF or without.
+fn joined(sheet: &[Record], rng: &mut Rng) -> Vec<u8> {
+    let mut text = sheet.concat();
+    if rng.once_in(2) && text.ends_with(b"\r\n") {
+        text.truncate(text.len() - 2);
+    }
+    text
 }
 
 fn records(
@@ -62,11 +77,11 @@ pub fn any_text(rng: &mut Rng) -> Vec<u8> {
         0 => return sized(&sheet.concat(), rng),
         1 => return counted(sheet, rng),
         2 => return soup(rng),
-        3..=6 => return sheet.concat(),
+        3..=6 => return joined(&sheet, rng),
         7..=11 => damage_record(&mut sheet, rng),
         _ => (),
     }
-    let mut text = sheet.concat();
+    let mut text = joined(&sheet, rng);
     for _ in 0..rng.below(3) {
         damage_bytes(&mut text, rng);
     }
@@ -113,6 +128,15 @@ fn counted(mut sheet: Vec<Record>, rng: &mut Rng) -> Vec<u8> {
         sheet[answers - back] = rng.pick(&[&b"7,-7"[..], b"\r\n", b"7\r\n"]).to_vec();
     }
     sheet.concat()
+}
+
+/// A byte of each kind that a sheet is made of, two digits, and the one that no sheet has.
+pub const BYTES: [u8; 8] = *b"05-,\"\r\n\0";
+
+/// One of the texts of so many of these bytes.
+pub fn ending(which: usize, length: u32) -> Vec<u8> {
+    let digit = |place| which / BYTES.len().pow(place) % BYTES.len();
+    (0..length).map(|place| BYTES[digit(place)]).collect()
 }
 
 /// Any bytes, mostly those of which sheets are made.
@@ -163,7 +187,7 @@ const ENDINGS: [&[u8]; 9] = [
 ];
 
 /// Fields out of form, and a few that are odd but in form.
-const FIELDS: [&[u8]; 22] = [
+const FIELDS: [&[u8]; 34] = [
     b"",
     b"-",
     b"--1",
@@ -171,7 +195,19 @@ const FIELDS: [&[u8]; 22] = [
     b" 1",
     b"1 ",
     b"\"1\"",
+    b"\"-1\"",
+    b"\"00001\"",
     b"\"",
+    b"\"\"",
+    b"\"10",
+    b"10\"",
+    b"\"-\"",
+    b"-\"1\"",
+    b"\"1\"2",
+    b"\"\"1\"\"",
+    b"\" 1\"",
+    b"\"1,2\"",
+    b"\"000001\"",
     b"1-",
     b"1.0",
     b"1e3",

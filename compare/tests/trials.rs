@@ -89,7 +89,6 @@ fn the_sheet() {
 #[test]
 fn forms_of_sheets() {
     sheet_trial(b"", "refuse,12,1");
-    sheet_trial(b"1,0,100,1", "refuse,12,1");
     sheet_trial(b"01,-0,00100,00001\r\n-00000,-050\r\n", "next,100,1");
     sheet_trial(b"1,0,100,000001\r\n", "refuse,12,1");
     sheet_trial(b"1,0,100,1\r\n\r\n", "refuse,12,2");
@@ -102,12 +101,60 @@ fn forms_of_sheets() {
 }
 
 #[test]
+fn last_line_end() {
+    sheet_trial(b"1,0,100,1", "next,0,0");
+    sheet_trial(b"1,0,100,1\r\n0,-50", "next,100,1");
+    sheet_trial(b"1,0,100,1\r\n0,\"-50\"", "next,100,1");
+    sheet_trial(b"1,0,100,1\r\n0,-50\r", "refuse,12,2");
+    sheet_trial(b"1,0,100,1\r\n0,-50\n", "refuse,12,2");
+    sheet_trial(b"1,0,100,1\r\n0,-50\0", "refuse,12,2");
+    sheet_trial(b"1,0,100,1\r\n0,-50\n100,100\r\n", "refuse,12,2");
+    sheet_trial(b"1,0,100,1\r\n0,-50\r\n\r\n", "refuse,12,3");
+    sheet_trial(b"1,0,100,1\r\n0,", "refuse,12,2");
+}
+
+/// A value in every spelling with quotes: taken where only a number stands between two of them.
+#[test]
+fn fields_in_quotes() {
+    let with = |field: &str| format!("\"1\",0,\"100\",1\r\n\"0\",{field}\r\n").into_bytes();
+    for field in ["\"-50\"", "\"-00050\"", "\"0\"", "\"-0\"", "50"] {
+        sheet_trial(&with(field), "next,100,1");
+    }
+    let wrong = [
+        "\"5",
+        "5\"",
+        "\"",
+        "\"\"",
+        "\"-\"",
+        "\"1\"2",
+        "1\"2\"",
+        "\"\"5\"\"",
+        "\"5\"\"",
+        "\" 5\"",
+        "\"5\" ",
+        "\"1,2\"",
+        "-\"5\"",
+        "\"+5\"",
+        "\"000005\"",
+        "'5'",
+        "\"5\r\n\"",
+        "\"5\",",
+        "\"5\"\r",
+    ];
+    for field in wrong {
+        sheet_trial(&with(field), "refuse,12,2");
+    }
+    sheet_trial(b"\"1,0,100,1\"\r\n", "refuse,12,1");
+}
+
+#[test]
 fn numbers_of_records() {
     let with = |n| [&b"9,0,0,0\r\n"[..], &b"0,0\r\n".repeat(n)].concat();
     sheet_trial(&with(72), "refuse,1,1");
     sheet_trial(&with(73), "refuse,11,74");
     let last = |n, last: &[u8]| [&with(n), last].concat();
     sheet_trial(&last(71, b"0"), "refuse,12,73");
+    sheet_trial(&last(71, b"\"0\",0"), "refuse,1,1");
     sheet_trial(&last(72, b"0"), "refuse,11,74");
 }
 
