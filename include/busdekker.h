@@ -31,8 +31,9 @@ extern "C" {
 #define BUSDEKKER_ASSERT(condition, words) _Static_assert(condition, words)
 #endif
 
-/* The version of this interface. An archive of the same version answers the same number to busdekker_version(). */
-#define BUSDEKKER_VERSION 1
+/* The version of this interface. An archive of the same version answers the same number to busdekker_version(). Since version 2
+ * busdekker_sheet takes fields between double quotes and a last record without CR LF. */
+#define BUSDEKKER_VERSION 2
 
 /* The answers that a search keeps. */
 #define BUSDEKKER_SLOTS 72
@@ -174,7 +175,8 @@ struct busdekker_report busdekker_ask(const struct busdekker_search *search);
 struct busdekker_report busdekker_values(struct busdekker_opening opening, const int32_t *values, size_t length);
 
 /* The outcome of a trial sheet: the report of the search that it is, or a refusal (all but 9), whose place is a record. `text` points to
- * `length` bytes, any number of them, which are read and not written; it is not null even where `length` is 0. */
+ * `length` bytes, any number of them, which are read and not written; it is not null even where `length` is 0. A record is numbers with
+ * commas between them and CR LF at its end, which the last record may lack; each number may stand between double quotes. */
 struct busdekker_report busdekker_sheet(const uint8_t *text, size_t length);
 
 /* The archive lays the structs out so. */

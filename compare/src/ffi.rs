@@ -6,7 +6,7 @@ use crate::types::{Answered, Opening, Quotation, Report, Search};
 pub const WHO: &str = "the proved library, target/staticlib/libbusdekker.a";
 
 /// The version of the interface that is declared here.
-pub const VERSION: u32 = 1;
+pub const VERSION: u32 = 2;
 
 extern "C" {
     fn busdekker_version() -> u32;

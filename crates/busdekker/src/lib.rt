@@ -18,7 +18,7 @@ use rules::Row;
 pub extern "C" fn busdekker_version() -> u32
     ensures { λ r. ⌜ r ≡ version ⌝ }
 {
-    1
+    2
 }
 
 // t and the most answers that an opening may need.

@@ -63,9 +63,7 @@ fn scan_digits(s: &[u8], negative: bool, from: usize) -> NumberScan
 pub fn scan_number(s: &[u8], from: usize) -> NumberScan
     ensures { λ r. ⌜ r ≡ numberAt (now (s .entry)) from ⌝ }
 {
-    if byte_at(s, from) == MINUS {
-        scan_digits(s, true, from + 1)
-    } else {
-        scan_digits(s, false, from)
-    }
+    let negative = byte_at(s, from) == MINUS;
+    let start = if negative { from + 1 } else { from };
+    scan_digits(s, negative, start)
 }
