@@ -93,7 +93,7 @@ read-field {f} {z} e = text-field (field-text f z e)
 
 -- ---- a text is read as its numbers
 
--- what stands after a record with the bodies bs behind it: its own line end, and theirs
+-- what stands after a record's body where these rows follow: its line end, and their records
 abbrev behind : List ℕ → List (List (List ℕ)) → List ℕ
 behind end rows = after end (map joined rows) ++ flatten (recordsWith end (map joined rows))
 
