@@ -2,11 +2,13 @@
 ghost use mathlib.Core.Path.{_≡_};
 ghost use Prim.Native.Nat.{_≤_};
 ghost use lib.ListN.{getD};
-ghost use Rattle.forms.specs.Number.{isDigit, signed};
-ghost use Rattle.scanning.specs.Scan.{digitsAt, numberAt};
+ghost use Rattle.forms.specs.Number.{signed};
+ghost use Rattle.scanning.specs.Scan.{digitAt, digitsAt, numberAt};
 use scanning::NumberScan;
 
 const MINUS: u8 = b'-';
+
+const NO_DIGIT: u32 = 10;
 
 // ---- bytes
 
@@ -17,12 +19,18 @@ pub fn byte_at(s: &[u8], at: usize) -> u8
     if at < s.len() { s[at] } else { 0 }
 }
 
-// A digit stands at a place.
-fn digit_at(s: &[u8], at: usize) -> bool
-    ensures { λ r. ⌜ r ≡ isDigit (getD (now (s .entry)) at 0) ⌝ }
+// The digit at a place; 10 where none stands.
+fn digit_at(s: &[u8], at: usize) -> u32
+    ensures { λ r. ⌜ r ≡ digitAt (now (s .entry)) at ⌝ }
 {
     let b = byte_at(s, at);
-    if b < b'0' { false } else { b <= b'9' }
+    if b < b'0' {
+        return NO_DIGIT;
+    }
+    if b'9' < b {
+        return NO_DIGIT;
+    }
+    (b - b'0') as u32
 }
 
 // ---- numbers
@@ -35,22 +43,23 @@ fn with_sign(negative: bool, n: u32) -> i32
     if negative { 0 - (n as i32) } else { n as i32 }
 }
 
-// 1 to 5 digits, and no sixth, with a sign.
+// 1 to 5 digits, with a sign. A sixth is left to whoever asks what follows: it is no comma, no quote and no end.
 fn scan_digits(s: &[u8], negative: bool, from: usize) -> NumberScan
     ensures { λ r. ⌜ r ≡ digitsAt negative (now (s .entry)) from ⌝ }
 {
     let mut v: u32 = 0;
     let mut digits: u32 = 0;
     let mut i = from;
-    while digit_at(s, i) {
-        if digits == 5 {
-            return NumberScan::Malformed;
+    while digits < 5 {
+        let d = digit_at(s, i);
+        if d == NO_DIGIT {
+            break;
         }
-        v = v * 10 + (s[i] - b'0') as u32;
+        v = v * 10 + d;
         digits += 1;
         i += 1;
     }
-    if digits == 0 {
+    if i == from {
         return NumberScan::Malformed;
     }
     NumberScan::Is {
