@@ -1,5 +1,5 @@
-// The fields of a record, each byte looked at once: two of them at a place of a text, each a number, or one between double quotes, and the
-// comma, the CR LF or the end of the text after each.
+// The fields of a record, in one pass: two of them at a place of a text, each a number, or one between double quotes, and the comma, the
+// CR LF or the end of the text after each.
 ghost use mathlib.Core.Path.{_≡_};
 ghost use Prim.Native.Nat.{_<_};
 ghost use Rattle.scanning.specs.Scan.{beforeByte, beforeEnd, beforeNext, fieldAt, pairAt};

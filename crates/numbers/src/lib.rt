@@ -1,4 +1,4 @@
-// The numbers of a text, each byte looked at once: the byte at a place, and an optional minus and digits from a place on.
+// The numbers of a text, in one pass: the byte at a place, and an optional minus and digits from a place on.
 ghost use mathlib.Core.Path.{_≡_};
 ghost use Prim.Native.Nat.{_≤_};
 ghost use lib.ListN.{getD};
