@@ -19,7 +19,7 @@ use Rattle.held.specs.Held.{enterOf}
 use Rattle.journal.specs.Answers.{Answer}
 use Rattle.journal.specs.Run.{Call, byValue, into, callOf, reportsOf, searchAfter}
 use Rattle.runs.specs.Listed.{shortest, Before, enteredAt, CallMade}
-use Rattle.replay.specs.Replay.{callWith, callsUpTo, callsIn, rowsOf, writtenOver}
+use Rattle.replay.specs.Replay.{callWith, callsUpTo, callsIn, rowsOf}
 use Rattle.replay.specs.Calls.{callAt, CallsMade}
 
 -- ---- the calls one by one

@@ -3,7 +3,7 @@
 -- Assumes nothing.
 use Prim.Native.Nat.{ℕ}
 use mathlib.Core.Path.{_≡_, refl, sym, ap, ap₂, _∙_}
-use mathlib.Core.Bool.{Bool, true, false, cond}
+use mathlib.Core.Bool.{Bool, true, false}
 use mathlib.Core.List.{List, []}
 use borrow.Author.Tests.{eqb-true, eq-eqb}
 use lib.Dec.{eqb}
@@ -15,11 +15,10 @@ use Rattle.rules.specs.Refusals.{openingRefusal, Accepted}
 use Rattle.rules.specs.Search.{beginOf, progressOf, reportAt, isRefusal, reportOf}
 use Rattle.held.specs.declared.Search.{Search}
 use Rattle.held.specs.declared.Entered.{Entered}
-use Rattle.held.specs.Held.{freshOf, blank, reopenOf, openOf}
+use Rattle.held.specs.Held.{freshOf, reopenOf, openOf}
 use Rattle.journal.specs.Journal.{pointCalled, journalReport}
 use Rattle.journal.specs.Run.{Call, searchAfter, reportsOf}
 use Rattle.journal.specs.RunHolds.{run}
-use Rattle.replay.specs.declared.Replayed.{Replayed}
 use Rattle.replay.specs.Replay.{callsIn, writtenOver, replayOf, listAfter, Replays}
 use Rattle.replay.specs.Calls.{CallsMade}
 

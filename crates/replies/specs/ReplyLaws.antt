@@ -2,13 +2,12 @@
 -- buffer.
 -- Assumes nothing.
 use Prim.Native.Nat.{ℕ, _≤_, _<_}
-use mathlib.Core.Path.{_≡_, sym, ap, _∙_}
+use mathlib.Core.Path.{_≡_, ap, _∙_}
 use mathlib.Core.List.{List, [], _++_}
 use native.Mathlib.Omega.{arith}
 use borrow.Author.Tests.{lt-ltb}
 use lib.ListN.{length, length-append}
 use Rattle.held.specs.declared.Entered.{Entered}
-use Rattle.forms.specs.declared.Entries.{Entries}
 use Rattle.forms.specs.Entries.{longestText, wholeText, tooLong, refused, entriesOf}
 use Rattle.printing.specs.Printed.{recordOf, placed, placedLength}
 use Rattle.printing.specs.PrintedLaws.{written-within}

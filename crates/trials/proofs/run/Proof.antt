@@ -1,7 +1,6 @@
 -- `trials::run` is safe: there is a row for each call.
 -- Assumes nothing.
 use mathlib.Core.Path.{sym}
-use native.Mathlib.Omega.{arith}
 use lib.Seq.{length-take-le}
 use borrow.Author.Needs.{needs}
 use Rattle.trials.proofs.run.Statement.{statement}

@@ -1,8 +1,7 @@
 -- `trials::try_each` is safe, and its loop ends: each turn leaves fewer bytes.
 -- Assumes nothing.
 use mathlib.Core.Path.{sym}
-use native.Mathlib.Omega.{arith}
-use lib.ListN.{length, length-drop}
+use lib.ListN.{length}
 use lib.Seq.{length-take-le}
 use borrow.Author.Needs.{needs}
 use Rattle.trials.proofs.try_each.Statement.{statement}
