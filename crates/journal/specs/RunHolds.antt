@@ -24,7 +24,7 @@ use Rattle.journal.specs.Reading.{ReadAs}
 use Rattle.journal.specs.Run.{Call, byValue, into, offered, callOf, reportsOf, searchAfter, journalOf, journalAt, holding, EveryRun}
 use Rattle.journal.specs.SpellingLaws.{reading, has-text}
 use Rattle.journal.specs.JournalLaws.{Kept, report-list, at-most-answers, fewer-answers, kept-nested, kept-opposed}
-use Rattle.journal.specs.RunLaws.{journal-fits, kept-with, call-answers, report-held, report-sheet, spellable-opening, spellable-journal}
+use Rattle.journal.specs.RunLaws.{journal-fits, kept-with, call-answers, report-held, sheet-outcome, spellable-opening, spellable-journal}
 
 module _ (o : Opening) (accepted : Accepted o) where
   -- ---- the journal at each place
@@ -73,7 +73,7 @@ module _ (o : Opening) (accepted : Accepted o) where
         (λ r. e .0 r .0, λ s. e .1 (s, journal-fits o accepted journal k))
 
     sheet-report : SheetText text o journal → sheetOf text .report ≡ journalReport o journal
-    sheet-report s = report-sheet o accepted journal k text (spells .1 s)
+    sheet-report s = ap (λ (e : Entered). e .report) (sheet-outcome o accepted journal k text (spells .1 s))
 
   has-sheet : (journal : List Answer) → Kept o journal → (text : List ℕ) × SheetText text o journal
   has-sheet journal k =

@@ -29,7 +29,7 @@ use Rattle.held.specs.HeldLaws.{enter-refused, enter-accepted}
 use Rattle.forms.specs.declared.Entries.{Entries}
 use Rattle.forms.specs.Entries.{filled, entriesOf}
 use Rattle.forms.specs.ReadingLaws.{set-padded}
-use Rattle.outcomes.specs.Sheet.{leadsTo, settledAs, sheetOf}
+use Rattle.outcomes.specs.Sheet.{leadsTo, keptAs, settledAs, sheetOf}
 use Rattle.outcomes.specs.SheetLaws.{outcome-accepted, sheet-read}
 use Rattle.journal.specs.Answers.{Answer, answerValue, points, values}
 use Rattle.journal.specs.Answers as Answers
@@ -200,7 +200,7 @@ answers-kept o (x ∷ y ∷ rest) k =
     (one-answer o (Progress.First (x .value)) y _ (same-point (y .point) (secondOf o) (k .1 .called)) (second-taken o x y (k .0) (k .1) (k .2)))
     ∙ onward-answers o (startOf (sampleOf x) (sampleOf y)) rest (k .3)
 
-settled-stage : (e : Entries) (journal : List Answer) → settledAs e (stageOf journal) .report ≡ reportAt (e .opening) (stageOf journal)
+settled-stage : (e : Entries) (journal : List Answer) → settledAs e (stageOf journal) ≡ keptAs e (stageOf journal)
 settled-stage e [] = refl
 settled-stage e (x ∷ []) = refl
 settled-stage e (x ∷ y ∷ rest) = refl
@@ -215,12 +215,16 @@ module _ (o : Opening) (accepted : Accepted o) (journal : List Answer) (kept : K
       ap₂ (answersOf o Progress.Begun) (take-at (points journal) _ _ refl) (take-at (values journal) _ _ m)
       ∙ answers-kept o journal kept
 
-  pub report-sheet : (text : List ℕ) → entriesOf text ≡ journalEntries → sheetOf text .report ≡ journalReport o journal
-  report-sheet text e =
-      ap (λ (r : Entered). r .report)
-      (sym (sheet-read text journalEntries (sym e) refl) ∙ sym (outcome-accepted journalEntries (accepted .accepted)) ∙ ap (settledAs journalEntries) leads-to)
+  -- the reader's outcome on a text of it: the journal's report, and the search that holds the journal
+  pub sheet-outcome : (text : List ℕ) → entriesOf text ≡ journalEntries
+      → sheetOf text ≡ record { report = journalReport o journal; search = holding o journal }
+  sheet-outcome text e =
+      sym (sheet-read text journalEntries (sym e) refl)
+      ∙ sym (outcome-accepted journalEntries (accepted .accepted))
+      ∙ ap (settledAs journalEntries) leads-to
       ∙ settled-stage journalEntries journal
-      ∙ sym (report-stage o accepted journal kept)
+      ∙ ap₂ (λ (r : Report) (n : ℕ). record { report = r; search = record { opening = o; count = n; slots = padded (values journal) } })
+      (sym (report-stage o accepted journal kept)) (length-map journal Answers.answerPoint)
 
 -- ---- the numbers of a journal are short enough to be spelled
 

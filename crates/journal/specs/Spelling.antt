@@ -1,10 +1,12 @@
 -- The spelling of a trial sheet, as document 01 says it under "Held searches and sheets", with line ends and quotes as request 2026-01
--- has them: which bytes spell which numbers. It is a relation of its own between bytes and numbers, and knows nothing of how a sheet is
--- read. A text is the list of its bytes.
+-- has them: which bytes spell which numbers. Then the clean spelling of request 2026-02, one of them. Both are relations of their own
+-- between bytes and numbers, and know nothing of how a sheet is read or written. A text is the list of its bytes.
 -- Assumes nothing.
-use Prim.Native.Nat.{ℕ, _+_, _*_, _≤_}
+use Prim.Native.Nat.{ℕ, _+_, _*_, _≤_, _<_}
+use mathlib.Core.Path.{_≡_}
+use mathlib.Core.Logic.{_⊎_}
 use mathlib.Core.List.{List, [], _∷_, _++_}
-use lib.ListN.{length}
+use lib.ListN.{length, getD}
 use lib.IntN.{ℤ, pos, negℤ}
 use Rattle.rules.specs.declared.Opening.{Opening}
 use Rattle.forms.specs.Bytes.{cr, lf, comma, minus, doubleQuote}
@@ -48,3 +50,28 @@ pub data SheetText : List ℕ → Opening → List Answer → Type 0 where
   sheet : {f g h k t : List ℕ} {o : Opening} {answers : List Answer}
       → Field f (o .method) → Field g (o .first) → Field h (o .second) → Field k (o .tolerance) → AnswersText t answers
       → SheetText (f ++ comma ∷ g ++ comma ∷ h ++ comma ∷ k ++ t) o answers
+
+-- ---- clean sheets: no quotes, no leading zeros, no −0, CR LF after every record
+
+-- there is one digit, or the first is no 0
+abbrev pub NoLeadingZero : List ℕ → Type 0
+NoLeadingZero s = (length s ≡ 1) ⊎ (digit 0 < getD s 0 0)
+
+-- A clean number is one with no leading zero, and no −0.
+pub data CleanNumeral : List ℕ → ℤ → Type 0 where
+  plain : {s : List ℕ} {n : ℕ} → Digits s n → length s ≤ mostDigits → NoLeadingZero s → CleanNumeral s (pos n)
+  negated : {s : List ℕ} {n : ℕ} → Digits s n → length s ≤ mostDigits → NoLeadingZero s → 0 < n → CleanNumeral (minus ∷ s) (negℤ (pos n))
+
+-- Each later record is point,value and CR LF.
+pub data CleanAnswers : List ℕ → List Answer → Type 0 where
+  none : CleanAnswers [] []
+  next : {f g t : List ℕ} {a : Answer} {answers : List Answer}
+      → CleanNumeral f (a .point) → CleanNumeral g (a .value) → CleanAnswers t answers
+      → CleanAnswers (f ++ comma ∷ g ++ cr ∷ lf ∷ t) (a ∷ answers)
+
+-- The first record is method,x0,x1,τ and CR LF.
+pub data CleanText : List ℕ → Opening → List Answer → Type 0 where
+  sheet : {f g h k t : List ℕ} {o : Opening} {answers : List Answer}
+      → CleanNumeral f (o .method) → CleanNumeral g (o .first) → CleanNumeral h (o .second) → CleanNumeral k (o .tolerance)
+      → CleanAnswers t answers
+      → CleanText (f ++ comma ∷ g ++ comma ∷ h ++ comma ∷ k ++ cr ∷ lf ∷ t) o answers

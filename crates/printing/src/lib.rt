@@ -40,7 +40,7 @@ fn line_of(report: Report) -> Line
 }
 
 // Copies a text to the beginning of a buffer that is long enough for it, and says how many bytes were written.
-fn place_text(text: &[u8], out: &mut [u8]) -> usize
+pub fn place_text(text: &[u8], out: &mut [u8]) -> usize
     ensures { λ r. ⌜ r ≡ placedLength (now (text .entry)) (now (out .entry)) ⌝ }
     ensures { λ _. ⌜ now (out .exit) ≡ placed (now (text .entry)) (now (out .entry)) ⌝ }
 {

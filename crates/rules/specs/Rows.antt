@@ -23,6 +23,10 @@ refusedKind = 3
 abbrev pub quotedKind : ℕ
 quotedKind = 4
 
+-- of a sheet that was written
+abbrev pub writtenKind : ℕ
+writtenKind = 5
+
 -- ---- the numbers of a report
 
 abbrev pub rowOf : Report → Row

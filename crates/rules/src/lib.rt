@@ -38,6 +38,9 @@ pub const TOO_MANY: u32 = 11;
 
 pub const MALFORMED: u32 = 12;
 
+// A buffer that a clean sheet is to be written into: shorter than the sheet.
+pub const BUFFER_TOO_SHORT: u32 = 13;
+
 // An opening: the method, the first end x0, the second end x1 and the tolerance. A sheet may hold any of them out of range.
 #[repr(C)]
 pub struct Opening {
@@ -111,7 +114,7 @@ pub enum Report {
     },
 }
 
-// The kinds of reports and quotes as plain numbers: a next point, the stop, a refusal, a quote.
+// The kinds of reports, quotes and written sheets as plain numbers: a next point, the stop, a refusal, a quote, a sheet.
 pub const NEXT_KIND: u32 = 1;
 
 pub const STOP_KIND: u32 = 2;
@@ -119,6 +122,8 @@ pub const STOP_KIND: u32 = 2;
 pub const REFUSED_KIND: u32 = 3;
 
 pub const QUOTED_KIND: u32 = 4;
+
+pub const WRITTEN_KIND: u32 = 5;
 
 // A report as plain numbers, where no enum can stand: `kind` says which of the three it is, and a number that its kind has not is 0.
 #[repr(C)]
