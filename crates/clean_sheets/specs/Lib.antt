@@ -2,3 +2,7 @@
 -- ClaimsHold.
 pub mod Clean
 pub mod Claims
+pub mod TextLaws
+pub mod AnswersLaws
+pub mod LengthLaws
+pub mod ClaimsHold

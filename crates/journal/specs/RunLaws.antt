@@ -205,15 +205,16 @@ settled-stage e [] = refl
 settled-stage e (x ∷ []) = refl
 settled-stage e (x ∷ y ∷ rest) = refl
 
+-- where the answers lead that a text is read as
+pub read-leads : (o : Opening) (answers : List Answer)
+    → leadsTo (filled o (points answers) (values answers)) ≡ answersOf o Progress.Begun (points answers) (values answers)
+read-leads o answers =
+    let m : length (values answers) ≡ length (points answers) = length-map answers answerValue ∙ sym (length-map answers Answers.answerPoint) in
+    ap₂ (answersOf o Progress.Begun) (take-at (points answers) _ _ refl) (take-at (values answers) _ _ m)
+
 module _ (o : Opening) (accepted : Accepted o) (journal : List Answer) (kept : Kept o journal) where
   abbrev journalEntries : Entries
   journalEntries = filled o (points journal) (values journal)
-
-  leads-to : leadsTo journalEntries ≡ stageOf journal
-  leads-to =
-      let m : length (values journal) ≡ length (points journal) = length-map journal answerValue ∙ sym (length-map journal Answers.answerPoint) in
-      ap₂ (answersOf o Progress.Begun) (take-at (points journal) _ _ refl) (take-at (values journal) _ _ m)
-      ∙ answers-kept o journal kept
 
   -- the reader's outcome on a text of it: the journal's report, and the search that holds the journal
   pub sheet-outcome : (text : List ℕ) → entriesOf text ≡ journalEntries
@@ -221,7 +222,7 @@ module _ (o : Opening) (accepted : Accepted o) (journal : List Answer) (kept : K
   sheet-outcome text e =
       sym (sheet-read text journalEntries (sym e) refl)
       ∙ sym (outcome-accepted journalEntries (accepted .accepted))
-      ∙ ap (settledAs journalEntries) leads-to
+      ∙ ap (settledAs journalEntries) (read-leads o journal ∙ answers-kept o journal kept)
       ∙ settled-stage journalEntries journal
       ∙ ap₂ (λ (r : Report) (n : ℕ). record { report = r; search = record { opening = o; count = n; slots = padded (values journal) } })
       (sym (report-stage o accepted journal kept)) (length-map journal Answers.answerPoint)

@@ -35,7 +35,7 @@ unfolding allDigits
 all-digits (Digits.one d h) = digits-last [] (digit d) refl (bytes-digit (digit d) (omega arith) (omega arith))
 all-digits (Digits.more {s} r d h) = digits-last s (digit d) (all-digits r) (bytes-digit (digit d) (omega arith) (omega arith))
 
-some-digit : {s : List ℕ} {n : ℕ} → Digits s n → 1 ≤ length s
+pub some-digit : {s : List ℕ} {n : ℕ} → Digits s n → 1 ≤ length s
 some-digit (Digits.one d h) = omega arith
 some-digit (Digits.more {s} r d h) = omega (arith, length-append s (digit d ∷ []))
 

@@ -21,7 +21,7 @@ unfolding decimalWithin
 more-digits f n h = rw (le-ltb n 10 h, decimalWithin)
 
 -- induction on a number's decimal digits
-by-digits : (P : ℕ → Type 0) → ((n : ℕ) → n < 10 → P n) → ((n : ℕ) → 10 ≤ n → P (n / 10) → P n) → (n : ℕ) → P n
+pub by-digits : (P : ℕ → Type 0) → ((n : ℕ) → n < 10 → P n) → ((n : ℕ) → 10 ≤ n → P (n / 10) → P n) → (n : ℕ) → P n
 by-digits P one more n = within (suc n) n (lt-suc-self n)
   where
     within : (f m : ℕ) → m < f → P m

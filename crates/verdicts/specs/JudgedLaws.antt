@@ -25,7 +25,7 @@ use Rattle.verdicts.specs.Judged.{standingBy, triedBy, verdictOf}
 -- ---- an accepted answer
 
 -- a search that is not refused holds no more values than it has slots
-standing-fine : (o : Opening) (n : ℕ) (vs : List ℤ) → isRefused (standingBy o n vs) ≡ false
+pub standing-fine : (o : Opening) (n : ℕ) (vs : List ℤ) → isRefused (standingBy o n vs) ≡ false
     → (n ≤ slots) × (standingBy o n vs ≡ progressOf o (take n vs))
 unfolding standingBy
 standing-fine o n vs = go (ltb slots n) refl
