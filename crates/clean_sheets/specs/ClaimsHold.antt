@@ -36,11 +36,12 @@ use Rattle.journal.specs.Spelling.{CleanText}
 use Rattle.journal.specs.Reading.{ReadAs}
 use Rattle.journal.specs.Run.{holding}
 use Rattle.journal.specs.SpellingLaws.{reading, spelled-read}
+use Rattle.journal.specs.CleanLaws.{clean-sheet, one-text}
 use Rattle.journal.specs.JournalLaws.{Kept, report-list}
 use Rattle.journal.specs.RunLaws.{journal-fits, values-held, read-leads, sheet-outcome, spellable-opening, spellable-journal}
 use Rattle.clean_sheets.specs.Clean.{withPoints, heldAnswers, answersText, sheetText, cleanOf, longestSheet, cleanedOf, rewrittenOf}
 use Rattle.clean_sheets.specs.Claims.{AcceptedSearch, cleared, CleanSheet, EveryCleanSheet, Rewritten, EveryRewritten}
-use Rattle.clean_sheets.specs.TextLaws.{clean-sheet, clean-text, text-clean}
+use Rattle.clean_sheets.specs.TextLaws.{text-clean}
 use Rattle.clean_sheets.specs.AnswersLaws.{same-values, as-many, begins, kept-values, called-for, Matched, matched}
 use Rattle.clean_sheets.specs.LengthLaws.{answers-short, sheet-short}
 
@@ -129,7 +130,7 @@ clean-sheets s a =
       held = same-values o (beginOf o) vs;
       called = λ i l. called-for o vs fine i (omega (arith, values-count s a));
       clean = is-clean o vs fine;
-      only = λ text t. clean-text t;
+      only = λ text t. one-text t (is-clean o vs fine);
       spelled = clean-sheet (is-clean o vs fine);
       restored = reads-back o vs fine ∙ ap₂ (λ (r : Report) (h : Search). record { report = r; search = h }) (reports s a) (holds s a);
       same = λ s' e f. ap₂ (λ (u : Opening) (ws : List ℤ). sheetText u (withPoints u (beginOf u) ws)) e f;

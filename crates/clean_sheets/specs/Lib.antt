@@ -6,3 +6,4 @@ pub mod TextLaws
 pub mod AnswersLaws
 pub mod LengthLaws
 pub mod ClaimsHold
+mod Examples

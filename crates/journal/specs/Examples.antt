@@ -1,8 +1,9 @@
 -- A run and sheets, worked by hand: what the journal tells, what the calls answer and what the search holds in the end hold by
--- computation; each sheet is spelled byte by byte.
+-- computation; each sheet is spelled byte by byte, clean ones too.
 -- Assumes nothing.
-use Prim.Native.Nat.{ℕ, _≤_}
-use mathlib.Core.Path.{_≡_, refl}
+use Prim.Native.Nat.{ℕ, _≤_, _<_}
+use mathlib.Core.Path.{_≡_, refl, sym, ap, subst, _∙_}
+use mathlib.Core.Logic.{inl, inr}
 use mathlib.Core.List.{List, [], _∷_, _++_, map}
 use native.Mathlib.Omega.{arith}
 use lib.IntN.{ℤ, pos}
@@ -17,9 +18,14 @@ use Rattle.rules.specs.Rules.{rationalOf, doubledOf, opposed, partnerOf, streak
 use Rattle.rules.specs.Refusals.{openingRefusal, answerRefusal, sameSide}
 use Rattle.rules.specs.Search.{turnsOf, mostOf, beginOf, offerOf, takeOf, progressOf, bracketReport, reportAt}
 use Rattle.held.specs.Held.{freshOf, standingOf, heldReport, enterOf}
+use Rattle.forms.specs.declared.Number.{Number}
+use Rattle.forms.specs.Number.{allDigits, valueFrom, signedOf, numberOf}
+use Rattle.forms.specs.Entries.{integerOf, fieldOf}
 use Rattle.forms.specs.Examples.{bytes, upTo100, negative}
 use Rattle.journal.specs.Answers.{Answer}
-use Rattle.journal.specs.Spelling.{digit, Digits, Numeral, Field, AnswersText, SheetText}
+use Rattle.journal.specs.Spelling.{digit, Digits, Numeral, Field, AnswersText, SheetText, CleanNumeral, CleanAnswers, CleanText}
+use Rattle.journal.specs.SpellingLaws.{field-read}
+use Rattle.journal.specs.CleanLaws.{clean-field, one-numeral}
 use Rattle.journal.specs.Journal.{stopOf, pointCalled, journalReport, refusalOf, journalWith, toldOf, journalAfter, toldAll, bracketsOf}
 use Rattle.journal.specs.Run.{Call, byValue, into, offered, reportsOf, searchAfter, journalOf}
 
@@ -153,3 +159,40 @@ two-answers =
     SheetText.sheet (Field.bare (one-digit 1 (omega arith))) (Field.bare minus-zero) (Field.enclosed hundred) (Field.bare (one-digit 1 (omega arith)))
     (AnswersText.next (Field.bare minus-zero) enclosed-fifty
     (AnswersText.next (Field.bare hundred) (Field.bare leading-zeros) AnswersText.unended))
+
+-- ---- clean numbers, and a clean sheet
+
+clean-digit : (d : ℕ) → d ≤ 9 → CleanNumeral (digit d ∷ []) (pos d)
+clean-digit d h = CleanNumeral.plain (Digits.one d h) (omega arith) (inl refl)
+
+clean-hundred : CleanNumeral (bytes "100") (pos 100)
+clean-hundred =
+    CleanNumeral.plain (Digits.more (Digits.more (Digits.one 1 (omega arith)) 0 (omega arith)) 0 (omega arith)) (omega arith) (inr (omega arith))
+
+clean-minus-fifty : CleanNumeral (bytes "-50") (negative 50)
+clean-minus-fifty = CleanNumeral.negated (Digits.more (Digits.one 5 (omega arith)) 0 (omega arith)) (omega arith) (inr (omega arith)) (omega arith)
+
+one-clean-answer : CleanText (bytes "1,0,100,1\r\n0,-50\r\n") upTo100 (answer (pos 0) (negative 50) ∷ [])
+one-clean-answer =
+    CleanText.sheet (clean-digit 1 (omega arith)) (clean-digit 0 (omega arith)) clean-hundred (clean-digit 1 (omega arith))
+    (CleanAnswers.next (clean-digit 0 (omega arith)) clean-minus-fifty CleanAnswers.none)
+
+-- a field that is read as d is clean only if it is that digit's byte
+unclean : (f : List ℕ) (d : ℕ) → d ≤ 9 → fieldOf f ≡ Number.Is (pos d) → 1 < length f → (z : ℤ) → CleanNumeral f z → ⊥
+unclean f d h e long z c =
+    let same : z ≡ pos d = ap integerOf (sym (field-read (clean-field c)) ∙ e) in
+    let one = one-numeral (subst (CleanNumeral f) same c) (clean-digit d h) in
+    absurd (omega (arith, ap length one))
+
+-- 01, −0, and a 5 between double quotes
+no-leading-zero : (z : ℤ) → CleanNumeral (bytes "01") z → ⊥
+unfolding fieldOf numberOf signedOf allDigits valueFrom
+no-leading-zero = unclean (bytes "01") 1 (omega arith) refl (omega arith)
+
+no-minus-zero : (z : ℤ) → CleanNumeral (bytes "-0") z → ⊥
+unfolding fieldOf numberOf signedOf allDigits valueFrom
+no-minus-zero = unclean (bytes "-0") 0 (omega arith) refl (omega arith)
+
+no-quotes : (z : ℤ) → CleanNumeral (bytes "\"5\"") z → ⊥
+unfolding fieldOf numberOf signedOf allDigits valueFrom
+no-quotes = unclean (bytes "\"5\"") 5 (omega arith) refl (omega arith)

@@ -8,5 +8,6 @@ pub mod Run
 mod Examples
 pub mod JournalLaws
 pub mod SpellingLaws
+pub mod CleanLaws
 pub mod RunLaws
 pub mod RunHolds
