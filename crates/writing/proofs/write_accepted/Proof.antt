@@ -1,0 +1,95 @@
+-- `writing::write_accepted` meets its contract: the sheet is made in a buffer of its own, which is long enough for every accepted
+-- search, and copied where the lent one is long enough.
+-- Assumes nothing.
+use Prim.Native.Nat.{ℕ, _≤_}
+use mathlib.Core.Path.{_≡_, refl, sym, ap, ap₂, _∙_}
+use native.Mathlib.Omega.{arith}
+use lib.ListN.{length, take}
+use lib.Seq.{length-take-le}
+use borrow.Author.Needs.{needs}
+use borrow.Author.Tests.{lt-ltb, le-ltb, lt-leb, le-leb}
+use Rattle.printing.specs.Printed.{placed, placedLength}
+use Rattle.clean_sheets.specs.declared.Written.{Written}
+use Rattle.clean_sheets.specs.Clean.{cleanOf, longestSheet}
+use Rattle.clean_sheets.specs.ClaimsHold.{sheet-within}
+use Rattle.clean_lines.specs.PiecesLaws.{spliced-front}
+use Rattle.writing.proofs.write_accepted.Statement.{statement}
+use Rattle.writing.proofs.write_accepted.Tie as tie
+
+slice-aggregate-sheet-into : tie.Need-slice-aggregate-sheet-into
+slice-aggregate-sheet-into c = search needs
+
+sheet-into-requires : tie.Need-sheet-into-requires
+sheet-into-requires c κs =
+    let s = c .before .before in
+    (s .pre, omega (arith, sheet-within (s .args .search) (s .pre)))
+
+returns : tie.Need-returns
+unfolding placed
+returns c =
+    let n = c .before .before .sheet-into .ensures .0 in
+    simp (lt-ltb _ _ (rw n at (c .if1 .taken)), lt-leb _ _ (rw n at (c .if1 .taken))) (refl, refl)
+
+-- where the buffer is long enough
+abbrev start-of : tie.Else1 → tie.Start
+start-of c = c .before .before .before .before .before
+
+inside : (c : tie.Else1) → c .before .before .sheet-into .result ≤ length (c .before .before .sheet-into .last .1 .0)
+inside c =
+    let m = c .before .before .sheet-into in
+    omega (arith, m .ensures .0, m .kept .1 .0, sheet-within (start-of c .args .search) (start-of c .pre))
+
+-- what was made is the sheet
+made : (c : tie.Else1)
+    → take (c .before .before .sheet-into .result) (c .before .before .sheet-into .last .1 .0) ≡ cleanOf (start-of c .args .search)
+made c =
+    let m = c .before .before .sheet-into .ensures in
+    ap₂ take (m .0) (m .1) ∙ spliced-front _ (cleanOf (start-of c .args .search))
+
+array-share-prefix-sheet : tie.Need-array-share-prefix-sheet
+array-share-prefix-sheet c = inside c
+
+slice-aggregate-place-text : tie.Need-slice-aggregate-place-text
+slice-aggregate-place-text c = sym (length-take-le _ _ (inside (c .before)))
+
+place-text-requires : tie.Need-place-text-requires
+place-text-requires c κs = search needs
+
+-- all of it is copied
+abbrev else-of : tie.After-place-text → tie.Else1
+else-of c = c .before .before .before
+
+fits : (c : tie.After-place-text) → length (cleanOf (start-of (else-of c) .args .search)) ≤ length (start-of (else-of c) .args .out .now)
+fits c = omega (arith, else-of c .before .before .sheet-into .ensures .0, else-of c .if1 .left)
+
+whole : (c : tie.After-place-text) → c .place-text .result ≡ length (cleanOf (start-of (else-of c) .args .search))
+unfolding placedLength
+whole c = (rw (made (else-of c)) at (c .place-text .ensures .0)) ∙ simp (le-leb _ _ (fits c))
+
+cast-t14 : tie.Need-cast-t14
+cast-t14 c =
+    let p = c .before .before in
+    let s = start-of (else-of p) in
+    record { fits = omega (arith, whole p, sheet-within (s .args .search) (s .pre)) }
+
+same-length : tie.Need-same-length
+same-length c = search needs
+
+returns-2 : tie.Need-returns-2
+returns-2 c =
+    let p = c .before .before in
+    (simp (le-ltb _ _ (fits p)) (ap Written.Sheet (whole p)), rw (made (else-of p)) at (p .place-text .ensures .1))
+
+pub write-accepted-spec : {M : Type 1} → statement M
+write-accepted-spec =
+    tie.close
+    (tie.spec
+    slice-aggregate-sheet-into
+    sheet-into-requires
+    returns
+    array-share-prefix-sheet
+    slice-aggregate-place-text
+    place-text-requires
+    cast-t14
+    same-length
+    returns-2)

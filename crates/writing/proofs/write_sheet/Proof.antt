@@ -1,0 +1,73 @@
+-- `writing::write_sheet` meets its contract: by the search's report.
+-- Assumes nothing.
+use Prim.Native.Nat.{ℕ}
+use mathlib.Core.Path.{_≡_, refl, sym, ap, _∙_}
+use mathlib.Core.Bool.{false}
+use mathlib.Core.List.{List, [], _∷_}
+use mathlib.Core.Logic.{inl, inr}
+use native.Mathlib.Omega.{arith}
+use types.Run.{OneOf}
+use denote.Enum.Declared.{tagOf}
+use borrow.Author.Needs.{needs}
+use Rattle.integers.specs.SignsLaws.{never}
+use Rattle.rules.specs.declared.Report.{Report}
+use Rattle.rules.proofs.Report.{the-type}
+use Rattle.rules.specs.Search.{isRefusal}
+use Rattle.held.specs.Held.{heldReport}
+use Rattle.clean_sheets.specs.Clean.{cleanOf, fittedIn, writtenAfter, writtenOf, bufferOf}
+use Rattle.writing.proofs.write_sheet.Statement.{statement}
+use Rattle.writing.proofs.write_sheet.Tie as tie
+
+-- a report that is a next point or a stop
+not-refusal : (r : Report) → OneOf (0 ∷ 1 ∷ []) (tagOf the-type r) → isRefusal r ≡ false
+not-refusal (Report.Next point taken) t = refl
+not-refusal (Report.Stop lower upper better taken) t = refl
+not-refusal (Report.Refused n i) (inl t) = absurd (omega arith)
+not-refusal (Report.Refused n i) (inr t) = absurd (omega arith)
+
+-- what is told then is about the buffer
+fitted : (r : Report) (buffer text : List ℕ) → isRefusal r ≡ false → fittedIn buffer text ≡ writtenAfter r buffer text
+fitted (Report.Next point taken) buffer text t = refl
+fitted (Report.Stop lower upper better taken) buffer text t = refl
+fitted (Report.Refused n i) buffer text t = never t
+
+report-requires : tie.Need-report-requires
+report-requires c κs = search needs
+
+enum-known-report : tie.Need-enum-known-report
+enum-known-report c = search needs
+
+returns : tie.Need-returns
+unfolding writtenOf bufferOf
+returns c =
+    let told = c .before .before .before .report .ensures in
+    rw (sym told ∙ c .before .report2 .given .1) (refl, refl)
+
+write-accepted-requires : tie.Need-write-accepted-requires
+write-accepted-requires c κs =
+    let asked = c .before .before .report in
+    record { accepted = ap isRefusal (sym (asked .ensures)) ∙ not-refusal (asked .result) (c .before .match .keys2); full = search needs }
+
+same-length : tie.Need-same-length
+same-length c = search needs
+
+returns-2 : tie.Need-returns-2
+unfolding writtenOf bufferOf
+returns-2 c =
+    let w = c .before .before in
+    let m = w .before .before in
+    let asked = m .before .report in
+    let s = m .before .before .before .args in
+    let told : isRefusal (heldReport (s .search)) ≡ false = ap isRefusal (sym (asked .ensures)) ∙ not-refusal (asked .result) (m .match .keys2) in
+    (w .write-accepted .ensures .0 ∙ fitted (heldReport (s .search)) (s .out .now) (cleanOf (s .search)) told, w .write-accepted .ensures .1 ∙ simp told)
+
+pub write-sheet-spec : {M : Type 1} → statement M
+write-sheet-spec =
+    tie.close
+    (tie.spec
+    report-requires
+    enum-known-report
+    returns
+    write-accepted-requires
+    same-length
+    returns-2)

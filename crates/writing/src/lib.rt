@@ -1,0 +1,82 @@
+// The sheet written back: the clean sheet of a held search, in a lent buffer.
+ghost use mathlib.Core.Path.{_≡_};
+ghost use mathlib.Core.Bool.{false};
+ghost use Prim.Native.Nat.{_+_, _≤_};
+ghost use lib.ListN.{length};
+ghost use Rattle.rules.specs.Search.{isRefused, beginOf, progressOf};
+ghost use Rattle.printing.specs.Printed.{placed};
+ghost use Rattle.clean_sheets.specs.Clean.{withPoints, answersText, cleanOf, fittedIn, writtenOf, bufferOf};
+ghost use Rattle.clean_sheets.specs.Claims.{AcceptedSearch};
+ghost use Rattle.clean_lines.specs.Pieces.{spliced};
+use clean_sheets::Written;
+use held::Search;
+use rules::Opening;
+use rules::Progress;
+use rules::Report;
+
+// The records of accepted values, each with the point that was called for, from the place `at` of the buffer on; and the place behind them.
+fn answers_into(o: Opening, values: &[i32], out: &mut [u8], at: usize) -> usize
+    requires { ⌜ (isRefused (progressOf o (now values)) ≡ false)
+        × (at + length (answersText (withPoints o (beginOf o) (now values))) ≤ length (now out)) ⌝ }
+    ensures { λ r. ⌜ r ≡ at + length (answersText (withPoints o (beginOf o) (now (values .entry)))) ⌝ }
+    ensures { λ _. ⌜ now (out .exit) ≡ spliced (now (out .entry)) at (answersText (withPoints o (beginOf o) (now (values .entry)))) ⌝ }
+{
+    let mut p = Progress::Begun;
+    let mut end = at;
+    let mut i: usize = 0;
+    while i < values.len() {
+        let v = values[i];
+        let answer = retracing::retrace(o, p, v);
+        end = clean_lines::put_line(clean_lines::answer_line(answer.point, v), out, end);
+        p = answer.after;
+        i += 1;
+    }
+    end
+}
+
+// The clean sheet of an accepted search at the beginning of a buffer that is long enough for it, and its length.
+fn sheet_into(s: Search, out: &mut [u8]) -> usize
+    requires { ⌜ (AcceptedSearch s) × (length (cleanOf s) ≤ length (now out)) ⌝ }
+    ensures { λ r. ⌜ r ≡ length (cleanOf s) ⌝ }
+    ensures { λ _. ⌜ now (out .exit) ≡ spliced (now (out .entry)) 0 (cleanOf s) ⌝ }
+{
+    let o = s.opening;
+    let at = clean_lines::put_line(clean_lines::opening_line(o), out, 0);
+    let n = s.count as usize;
+    let slots = s.slots;
+    answers_into(o, &slots[..n], out, at)
+}
+
+// The clean sheet of an accepted search, where the buffer is long enough.
+fn write_accepted(search: Search, out: &mut [u8]) -> Written
+    requires { ⌜ AcceptedSearch search ⌝ }
+    ensures { λ r. ⌜ r ≡ fittedIn (now (out .entry)) (cleanOf search) ⌝ }
+    ensures { λ _. ⌜ now (out .exit) ≡ placed (cleanOf search) (now (out .entry)) ⌝ }
+{
+    let mut sheet = [0u8; clean_sheets::LONGEST_SHEET];
+    let length = sheet_into(search, &mut sheet);
+    if out.len() < length {
+        return Written::Refused {
+            number: rules::BUFFER_TOO_SHORT,
+            place: 0,
+        };
+    }
+    let written = printing::place_text(&sheet[..length], out);
+    Written::Sheet {
+        length: written as u32,
+    }
+}
+
+// Writes the clean sheet of a search at the beginning of `out`, whose further bytes keep their contents, and tells its length. The
+// search's own refusal comes first, then 13 where `out` is shorter than the sheet; nothing is written then. A buffer of
+// clean_sheets::LONGEST_SHEET bytes is long enough for every search.
+pub fn write_sheet(search: Search, out: &mut [u8]) -> Written
+    ensures { λ r. ⌜ r ≡ writtenOf search (now (out .entry)) ⌝ }
+    ensures { λ _. ⌜ now (out .exit) ≡ bufferOf search (now (out .entry)) ⌝ }
+{
+    let report = search.report();
+    if let Report::Refused { number, place } = report {
+        return Written::Refused { number, place };
+    }
+    write_accepted(search, out)
+}
