@@ -1,18 +1,24 @@
--- The types of this interface as its proofs by hand want them: a report as plain numbers, beside a search, and what is written.
+-- The types of this interface as its proofs by hand want them: a report as plain numbers, beside a search, a verdict with its report as plain
+-- numbers, and what is told of a written sheet.
 -- Assumes nothing.
 use denote.Struct.Laws as SL
 use Rattle.rules.proofs.Row as N
 use Rattle.rules.proofs.Row.Laws as N′
 use Rattle.numbered.proofs.Answered as E
 use Rattle.numbered.proofs.Answered.Laws as E′
-use Rattle.numbered.proofs.Written as W
-use Rattle.numbered.proofs.Written.Laws as W′
+use Rattle.numbered.proofs.NumberedVerdict as W
+use Rattle.numbered.proofs.NumberedVerdict.Laws as W′
+use Rattle.clean_sheets.proofs.WrittenRow as T
+use Rattle.clean_sheets.proofs.WrittenRow.Laws as T′
 use Rattle.lent.proofs.Walk.{Plain, struct}
 use Rattle.lent.proofs.Whole.{Beside, BesideLaws}
 use Rattle.lent.proofs.Slot.{Verdicts, VerdictLaws}
 
 abbrev pub plain-row : Plain
 plain-row = struct N.the-type N′.the-laws N′.the-plain
+
+abbrev pub written-row : Plain
+written-row = struct T.the-type T′.the-laws T′.the-plain
 
 abbrev pub beside : Beside plain-row
 beside = record { type = E.the-row; name = E.the-type .name; told = λ e. e .report; left = λ e. e .search }
@@ -26,11 +32,11 @@ beside-laws =
       is-left = λ e vs is. SL.owed E.the-type E′.the-laws e vs is .1 .0;
     }
 
-abbrev pub written : Verdicts plain-row
-written = record { type = W.the-row; name = W.the-type .name; told = λ r. r .report; count = λ r. r .count; at = λ r. r .at; value = λ r. r .value }
+abbrev pub numbered : Verdicts plain-row
+numbered = record { type = W.the-row; name = W.the-type .name; told = λ r. r .report; count = λ r. r .count; at = λ r. r .at; value = λ r. r .value }
 
-abbrev pub written-laws : VerdictLaws written
-written-laws =
+abbrev pub numbered-laws : VerdictLaws numbered
+numbered-laws =
     record {
       tells = SL.tells W.the-type W′.the-laws;
       lawful = SL.lawful W.the-type W′.the-laws;

@@ -5,8 +5,10 @@ ghost use Rattle.rules.specs.Rows.{rowOf, quotationOf};
 ghost use Rattle.rules.specs.Search.{reportOf, quoteOf};
 ghost use Rattle.held.specs.Held.{reopenOf, heldReport, enterOf};
 ghost use Rattle.outcomes.specs.Sheet.{sheetOf};
+ghost use Rattle.clean_sheets.specs.Clean.{writtenOf, bufferOf, writtenRowOf};
 ghost use Rattle.numbered.specs.Numbered.{answeredOf};
 ghost use Rattle.busdekker.specs.Interface.{version};
+use clean_sheets::WrittenRow;
 use held::Search;
 use numbered::Answered;
 use rules::Opening;
@@ -18,7 +20,7 @@ use rules::Row;
 pub extern "C" fn busdekker_version() -> u32
     ensures { λ r. ⌜ r ≡ version ⌝ }
 {
-    2
+    3
 }
 
 // t and the most answers that an opening may need.
@@ -93,4 +95,13 @@ pub extern "C" fn busdekker_sheet(text: &[u8]) -> Row
     ensures { λ r. ⌜ r ≡ rowOf (sheetOf (now (text .entry)) .report) ⌝ }
 {
     asked::sheet_row(text)
+}
+
+// Writes the clean sheet of the host's search into the buffer lent, or refuses that.
+#[no_mangle]
+pub extern "C" fn busdekker_write(search: &Search, out: &mut [u8]) -> WrittenRow
+    ensures { λ r. ⌜ (r ≡ writtenRowOf (writtenOf (now (search .entry)) (now (out .entry))))
+        × (now (out .exit) ≡ bufferOf (now (search .entry)) (now (out .entry))) ⌝ }
+{
+    numbered::step_write(*search, out)
 }

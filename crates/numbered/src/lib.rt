@@ -4,7 +4,10 @@ ghost use Rattle.rules.specs.Rows.{rowOf};
 ghost use Rattle.held.specs.Held.{reopenOf, heldReport};
 ghost use Rattle.verdicts.specs.Judged.{verdictOf};
 ghost use Rattle.numbered.specs.Numbered.{answeredOf};
-ghost use Rattle.numbered.specs.Inner.{writtenOf};
+ghost use Rattle.clean_sheets.specs.Clean.{writtenOf, bufferOf, writtenRowOf};
+ghost use Rattle.numbered.specs.Inner.{numberedOf};
+use clean_sheets::Written;
+use clean_sheets::WrittenRow;
 use held::Search;
 use rules::Opening;
 use rules::Row;
@@ -17,7 +20,7 @@ pub struct Answered {
 }
 
 // What an answer does to a search, with the report as plain numbers: the count that the search then has, and the value of one slot.
-pub struct Written {
+pub struct NumberedVerdict {
     pub report: Row,
     pub count: u32,
     pub at: usize,
@@ -38,12 +41,12 @@ pub fn step_open(search: Search, opening: Opening) -> Answered
 }
 
 // What an answer does to a search.
-pub fn step_enter(search: Search, point: i32, value: i32) -> Written
-    ensures { λ r. ⌜ r ≡ writtenOf (verdictOf (search .opening) (search .count) (search .slots) point value) ⌝ }
+pub fn step_enter(search: Search, point: i32, value: i32) -> NumberedVerdict
+    ensures { λ r. ⌜ r ≡ numberedOf (verdictOf (search .opening) (search .count) (search .slots) point value) ⌝ }
 {
     let v = lent::judge(search, point, value);
     let report = v.report;
-    Written {
+    NumberedVerdict {
         report: rows::row_of(report),
         count: v.count,
         at: v.at,
@@ -56,4 +59,25 @@ pub fn step_ask(search: Search) -> Row
     ensures { λ r. ⌜ r ≡ rowOf (heldReport search) ⌝ }
 {
     rows::row_of(search.report())
+}
+
+// Writes the clean sheet of a search into a buffer, or refuses that.
+pub fn step_write(search: Search, out: &mut [u8]) -> WrittenRow
+    ensures { λ r. ⌜ (r ≡ writtenRowOf (writtenOf search (now (out .entry)))) × (now (out .exit) ≡ bufferOf search (now (out .entry))) ⌝ }
+{
+    let told = writing::write_sheet(search, out);
+    match told {
+        Written::Sheet { length } => WrittenRow {
+            kind: rules::WRITTEN_KIND,
+            length,
+            number: 0,
+            place: 0,
+        },
+        Written::Refused { number, place } => WrittenRow {
+            kind: rules::REFUSED_KIND,
+            length: 0,
+            number,
+            place,
+        },
+    }
 }

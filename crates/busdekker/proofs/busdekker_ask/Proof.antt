@@ -21,12 +21,11 @@ use types.Run.{look, look-raw, init, forget, stop, hop, from, load, and-then, no
 use types.Run.{pass1, pass0, free1, free0}
 use sound.WpLaws.{FmC}
 use denote.RattleType.{owns}
-use denote.Laws.{Is, shows}
+use denote.Laws.{Is}
 use denote.Memory.{partAt}
 use denote.Ref.{RefT, ShrRef, ptr-vals, shr-tells}
 use denote.Signature.{plain}
-use denote.Steps.{looks, shuts, owned, peeks, nothing}
-use denote.Struct.Steps.{spelt}
+use denote.Steps.{shuts, owned, nothing}
 use denote.Struct.Laws as LL
 use denote.Triple.Statement.{Contract, Triple}
 use denote.Triple.Call.{calls-at}
@@ -48,7 +47,7 @@ use Rattle.busdekker.proofs.busdekker_ask.Key.{name as #of}
 use Rattle.busdekker.proofs.busdekker_ask as f
 use Rattle.busdekker.proofs.busdekker_ask.Statement as stated
 use Rattle.busdekker.proofs.busdekker_ask.Code as code
-use Rattle.lent.proofs.Walk.{row, vals, answered, by-one-call}
+use Rattle.lent.proofs.Walk.{row, vals, looked-into, answered, by-one-call}
 use Rattle.lent.proofs.Types.{search}
 use Rattle.busdekker.proofs.Types.{plain-row}
 
@@ -99,15 +98,12 @@ module _ {M : Type 1} (𝓤 : URA M) (H : Heap 𝓤) (A : Atoms 𝓤) (W : Given
         alloc1 ! (λ l₀. alloc1 ! (λ l₁. alloc1 ! (λ l₂. alloc0 ! $ params1 ! $ pass1 ! (init ! 2 refl (tt, tt)) $ pass0 ! $
         -- [_2; …; _1; …; room for _0; …; the token and true; what the parameter owns]
         move ! (7 ∷ []) $ fsplit ! $ fsplit3 ! $ drop ! $ move ! (9 ∷ []) $ split ! $ move ! (3 ∷ 0 ∷ []) $
-        looks ! tt (row search) (Is (row search)) (shows 𝓤 H A (row search)) (vals search) (search .tells)
-        (LL.copy S.the-type S′.the-copy 𝓤 H A W) h b o (λ q′ vs.
-        spelt ! (row search) (Is (row search)) (shows 𝓤 H A (row search)) (vals search) (search .tells) q′ h vs b o $ move ! (1 ∷ []) $
-        peeks ! (row search) (Is (row search)) (shows 𝓤 H A (row search)) h (vals search h) (λ was. move ! (1 ∷ 0 ∷ []) $
+        looked-into search ! tt (LL.copy S.the-type S′.the-copy 𝓤 H A W) h b o (λ p was.
         -- [a share of the struct's cell; what a Search owns; what shuts it; the fractured borrow; true; res; true; _2 (7); …; _1 (9); …;
         -- room for _0 (11); …]
         assigns ! (of-opd ! (load ! (from ! (hop ! (look ! 9 refl) (stop !))) (look-raw ! 0 refl))) (from ! (stop !))
         (init ! 7 refl (search .lawful 𝓤 H A W .typed h _ was .0)) $
-        shuts ! tt (row search) q′ h (vals search h) b o $
+        shuts ! tt (row search) p h (vals search h) b o $
         -- [the token; the fractured borrow; true; res; true; _2 (5); …; _1 (7); …; room for _0 (9); …]
         owned ! (row search) (Is (row search)) (search .makes 𝓤 H A) h _ was $ use1 W (raw (Step 𝓤 H A at-mem run .pre to-step)) goes-step $
         calls-at ! fm (Step 𝓤 H A at-mem run) known to-step (and-then ! (load ! (from ! (stop !)) (look ! 6 refl)) (no-more !)) (λ w.
@@ -116,7 +112,7 @@ module _ {M : Type 1} (𝓤 : URA M) (H : Heap 𝓤) (A : Atoms 𝓤) (W : Given
         land ! (from ! (stop !)) (init ! 10 refl (plain-row .lawful 𝓤 H A W .typed n _ n-is .0)) $
         returns ! (look ! 10 refl) $ forget ! 6 refl $ forget ! 8 refl $ forget ! 10 refl $ move ! (10 ∷ 11 ∷ []) $ free1 ! $ move ! (8 ∷ 9 ∷ []) $
         free1 ! $ move ! (6 ∷ 7 ∷ []) $ free1 ! $ free0 ! $
-        keep ! (1 ∷ 4 ∷ 2 ∷ 0 ∷ []) $ by ! (exits n w e))))))))
+        keep ! (1 ∷ 4 ∷ 2 ∷ 0 ∷ []) $ by ! (exits n w e)))))))
 
 module _ {M : Type 1} (𝓤 : URA M) (H : Heap 𝓤) (A : Atoms 𝓤) (W : Given 𝓤 H A) (at-mem : Memory → SProp 𝓤) (run : Routine → Fun 𝓤) where
   walks : (C : Calls 𝓤 H) (Λ : Loops 𝓤 H) → FmC 𝓤 H (W .laws) C → Triple 𝓤 (C #step) (Step 𝓤 H A at-mem run)

@@ -7,7 +7,7 @@ use mir.Val.{SFits, toZ, ofZ}
 use mir.Facts.{toZ-ofZ}
 use Rattle.verdicts.specs.declared.Verdict.{Verdict}
 use Rattle.held.specs.HeldLaws.{verdictOn}
-use Rattle.numbered.specs.Inner.{writtenOf}
+use Rattle.numbered.specs.Inner.{numberedOf}
 use Rattle.rules.specs.declared.Row.{Row}
 use borrow.Author.Needs.{needs}
 use Rattle.numbered.proofs.step_enter.Statement.{statement}
@@ -25,16 +25,16 @@ judged c = let s = c .before in rw (toZ-ofZ (s .fits .point), toZ-ofZ (s .fits .
 abbrev verdict-of : tie.After-struct-told → Verdict
 verdict-of c = c .before .before .judge .result
 
-written : (c : tie.After-struct-told)
+numbered : (c : tie.After-struct-told)
     → record { report = c .before .row-of .result; count = verdict-of c .count; at = verdict-of c .at; value = toZ w32 (ofZ w32 (verdict-of c .value)) }
-    ≡ writtenOf (verdict-of c)
-written c =
+    ≡ numberedOf (verdict-of c)
+numbered c =
     let v = verdict-of c in
     let f : SFits w32 (v .value) = search needs in
     ap₂ (λ (n : Row) (z : ℤ). record { report = n; count = v .count; at = v .at; value = z }) (c .before .row-of .ensures) (toZ-ofZ f)
 
 returns : tie.Need-returns
-returns c = written c ∙ ap writtenOf (judged (c .before .before))
+returns c = numbered c ∙ ap numberedOf (judged (c .before .before))
 
 pub step-enter-spec : {M : Type 1} → statement M
 step-enter-spec = tie.close (tie.spec judge-requires row-of-requires returns)
