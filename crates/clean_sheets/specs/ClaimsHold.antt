@@ -38,7 +38,7 @@ use Rattle.journal.specs.Run.{holding}
 use Rattle.journal.specs.SpellingLaws.{reading, spelled-read}
 use Rattle.journal.specs.CleanLaws.{clean-sheet, one-text}
 use Rattle.journal.specs.JournalLaws.{Kept, report-list}
-use Rattle.journal.specs.RunLaws.{journal-fits, values-held, read-leads, sheet-outcome, spellable-opening, spellable-journal}
+use Rattle.journal.specs.RunLaws.{journal-fits, values-held, report-held, read-leads, sheet-outcome, spellable-opening, spellable-journal}
 use Rattle.clean_sheets.specs.Clean.{withPoints, heldAnswers, answersText, sheetText, cleanOf, longestSheet, cleanedOf, rewrittenOf}
 use Rattle.clean_sheets.specs.Claims.{AcceptedSearch, cleared, CleanSheet, EveryCleanSheet, Rewritten, EveryRewritten}
 use Rattle.clean_sheets.specs.TextLaws.{text-clean}
@@ -139,7 +139,7 @@ clean-sheets s a =
 
 -- ---- of a sheet that is accepted
 
-accepted-cleaned : (e : Entered) → isRefusal (e .report) ≡ false → cleanedOf e ≡ cleanOf (e .search)
+pub accepted-cleaned : (e : Entered) → isRefusal (e .report) ≡ false → cleanedOf e ≡ cleanOf (e .search)
 unfolding cleanedOf
 accepted-cleaned e h = simp h
 
@@ -206,6 +206,13 @@ module _ (text : List ℕ) (taken : isRefusal (sheetOf text .report) ≡ false) 
         ∙ ap (λ (ws : List ℤ). sheetText o (withPoints o (beginOf o) ws))
         (values-held o (accepted o vs fine) (journal o vs fine) (kept o vs fine) ∙ same-values o (beginOf o) vs)
 
+    -- the search that it is reports as it does
+    search-told : heldReport (sheetOf text .search) ≡ sheetOf text .report
+    search-told =
+        ap (λ (x : Entered). heldReport (x .search)) outcome
+        ∙ report-held o (accepted o vs fine) (journal o vs fine) (kept o vs fine)
+        ∙ sym (ap (λ (x : Entered). x .report) outcome)
+
     rewritten-clean : CleanText (rewrittenOf text) o answers
     rewritten-clean = subst₂ (λ (t : List ℕ) (xs : List Answer). CleanText t o xs) (sym rewritten-is) (sym are) (is-clean o vs fine)
 
@@ -214,6 +221,12 @@ module _ (text : List ℕ) (taken : isRefusal (sheetOf text .report) ≡ false) 
 
     rewritten-short : length (rewrittenOf text) ≤ longestSheet
     rewritten-short = rw rewritten-is (is-short o vs fine)
+
+-- the search that an accepted sheet is is accepted
+pub search-accepted : (text : List ℕ) → isRefusal (sheetOf text .report) ≡ false → isRefusal (heldReport (sheetOf text .search)) ≡ false
+search-accepted text taken =
+    let read = reading text .taken (form-read text taken) in
+    ap isRefusal (search-told text taken (read .0) (read .1) (read .2)) ∙ taken
 
 pub rewritten : EveryRewritten
 rewritten text taken =

@@ -1,0 +1,31 @@
+// A sheet cleaned: the clean sheet of the search that a text is, or the record of its refusal.
+ghost use mathlib.Core.Path.{_≡_};
+ghost use Prim.Native.Nat.{_≤_};
+ghost use lib.ListN.{length};
+ghost use Rattle.printing.specs.Printed.{placed, placedLength};
+ghost use Rattle.clean_sheets.specs.Clean.{longestSheet, rewrittenOf};
+use clean_sheets::Written;
+
+// Writes the clean sheet of a text of any length at the beginning of `out`, whose further bytes keep their contents, and answers its length;
+// for a text that is refused the record that tells the refusal. Where `out` is too short nothing is written, and the answer is 0. A buffer
+// of clean_sheets::LONGEST_SHEET bytes is long enough for every text.
+pub fn clean_sheet(text: &[u8], out: &mut [u8]) -> usize
+    ensures { λ r. ⌜ r ≡ placedLength (rewrittenOf (now (text .entry))) (now (out .entry)) ⌝ }
+    ensures { λ _. ⌜ now (out .exit) ≡ placed (rewrittenOf (now (text .entry))) (now (out .entry)) ⌝ }
+    ensures { λ _. ⌜ length (rewrittenOf (now (text .entry))) ≤ longestSheet ⌝ }
+{
+    let e = sheet::read_sheet(text);
+    let report = e.report;
+    if refusals::is_refusal(report) {
+        return printing::write_report(report, out);
+    }
+    let search = e.search;
+    let written = writing::write_sheet(search, out);
+    match written {
+        Written::Sheet { length } => length as usize,
+        Written::Refused {
+            number: _,
+            place: _,
+        } => 0,
+    }
+}
