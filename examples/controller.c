@@ -1,7 +1,7 @@
 /*
  * A controller's loop. It quotes and opens a search by M from 60.00 to 120.00 degrees with a tolerance of 0.50, asks the crew for a trial at
  * each setting called for, and enters what they bring. What is refused is said in words, and the same trial is asked for again. At the stop it
- * says between which settings the target lies, and which of the two is the better end.
+ * says between which settings the target lies, and which of the two is the better end, and prints the sheet to send with the lot.
  *
  * The crew is made up here. They make three mistakes: a new opening mistyped in the middle of the search, a value without its decimal point,
  * and a slip of the run before.
@@ -68,6 +68,18 @@ static void mistype_opening(struct busdekker_search *search) {
     printf("the search goes on; trials taken: %" PRIu32 "\n", busdekker_ask(search).taken);
 }
 
+/* Prints the clean sheet of the search. Returns 0 where that fails. */
+static int print_sheet(const struct busdekker_search *search) {
+    uint8_t sheet[BUSDEKKER_LONGEST_CLEAN_SHEET];
+    struct busdekker_written written = busdekker_write(search, sheet, sizeof sheet);
+    if (written.kind != BUSDEKKER_WRITTEN) {
+        fprintf(stderr, "controller: no sheet is written: %s\n", refusal_in_words(written.number));
+        return 0;
+    }
+    printf("the sheet to send with the lot, %" PRIu32 " bytes:\n", written.length);
+    return fwrite(sheet, 1, written.length, stdout) == written.length;
+}
+
 int main(void) {
     if (busdekker_version() != BUSDEKKER_VERSION) {
         fprintf(stderr, "controller: header and archive are of different versions\n");
@@ -102,5 +114,5 @@ int main(void) {
     struct busdekker_answered more = busdekker_entered(search, (int32_t)report.better, 0);
     printf("over its values: %s\n", listed.kind == BUSDEKKER_STOP && listed.better == report.better ? "the same" : "something else");
     printf("one trial more: refused, %s\n", refusal_in_words(more.report.number));
-    return 0;
+    return print_sheet(&search) ? 0 : 1;
 }

@@ -30,6 +30,8 @@ static const char *refusal_in_words(uint32_t number) {
         return "the value is not from -100.00 to 100.00";
     case BUSDEKKER_SAME_SIDE:
         return "the first two values are on the same side of target";
+    case BUSDEKKER_BUFFER_TOO_SHORT:
+        return "the buffer is shorter than the sheet";
     default:
         return "no refusal of this interface";
     }

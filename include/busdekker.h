@@ -32,14 +32,17 @@ extern "C" {
 #endif
 
 /* The version of this interface. An archive of the same version answers the same number to busdekker_version(). Since version 2
- * busdekker_sheet takes fields between double quotes and a last record without CR LF. */
-#define BUSDEKKER_VERSION 2
+ * busdekker_sheet takes fields between double quotes and a last record without CR LF. Since version 3 there is busdekker_write. */
+#define BUSDEKKER_VERSION 3
 
 /* The answers that a search keeps. */
 #define BUSDEKKER_SLOTS 72
 
 /* The bytes of the longest sheet. */
 #define BUSDEKKER_LONGEST_SHEET 4096
+
+/* 20 bytes for the opening and 14 for each of 72 answers: a buffer of so many takes the clean sheet of every search. */
+#define BUSDEKKER_LONGEST_CLEAN_SHEET 1028
 
 /* The bytes of stack that a call needs. Measured by tests/stack.c, which runs each call on a painted stack and looks how far it was written;
  * the gate holds every call to this figure. */
@@ -52,12 +55,13 @@ enum busdekker_method {
     BUSDEKKER_R = 2
 };
 
-/* The kinds of reports and quotations. */
+/* The kinds of reports, of quotations and of what is told of a written sheet. */
 enum busdekker_kind {
     BUSDEKKER_NEXT = 1,    /* a trial is called for */
     BUSDEKKER_STOP = 2,    /* the search has stopped */
     BUSDEKKER_REFUSED = 3, /* something is refused */
-    BUSDEKKER_QUOTED = 4   /* a quotation */
+    BUSDEKKER_QUOTED = 4,  /* a quotation */
+    BUSDEKKER_WRITTEN = 5  /* a sheet was written */
 };
 
 /* The numbers of refusals, in the order in which they are checked. The first that applies is told. */
@@ -78,7 +82,9 @@ enum busdekker_refusal {
     BUSDEKKER_HAD_STOPPED = 5,        /* the search had stopped */
     BUSDEKKER_NOT_CALLED_FOR = 6,     /* its point, where one is given, is not the one called for */
     BUSDEKKER_VALUE_OUT_OF_RANGE = 7, /* value out of range */
-    BUSDEKKER_SAME_SIDE = 8           /* second answer, and the first two values are both positive or both negative */
+    BUSDEKKER_SAME_SIDE = 8,          /* second answer, and the first two values are both positive or both negative */
+    /* the buffer that a sheet is to be written into, after the search itself */
+    BUSDEKKER_BUFFER_TOO_SHORT = 13 /* the buffer is shorter than the sheet */
 };
 
 /* An opening: one of the methods, the two ends of the range, either of which may be the lower, and the tolerance. */
@@ -135,6 +141,19 @@ struct busdekker_quotation {
     uint32_t place;
 };
 
+/*
+ * What is told of a sheet that is to be written. A number that its kind has not is 0.
+ *
+ *   BUSDEKKER_WRITTEN  length is the number of the sheet's bytes, which stand at the beginning of the buffer.
+ *   BUSDEKKER_REFUSED  number is 1 to 5, 7 to 9 or 13, and nothing was written. Place is the one that busdekker_ask tells, and 0 for 13.
+ */
+struct busdekker_written {
+    uint32_t kind;
+    uint32_t length;
+    uint32_t number;
+    uint32_t place;
+};
+
 /* A report, and the search as it then is. */
 struct busdekker_answered {
     struct busdekker_report report;
@@ -179,6 +198,18 @@ struct busdekker_report busdekker_values(struct busdekker_opening opening, const
  * commas between them and CR LF at its end, which the last record may lack; each number may stand between double quotes. */
 struct busdekker_report busdekker_sheet(const uint8_t *text, size_t length);
 
+/*
+ * Writes the clean sheet of *search at the beginning of the buffer: the opening with its method as held, then every answer, its point and its
+ * value. No number has quotes, leading zeros or a minus before 0, and CR LF ends every record, the last included. The same search always yields
+ * the same bytes, and slots at or past the count do not matter. busdekker_sheet of the text reports as busdekker_ask of the search: the text is
+ * read as this search, with 0 in those slots. Bytes of the buffer past the sheet keep their contents. *search is read and not written.
+ * `buffer` points to `size` bytes, any number of them, no part of *search, that nobody else reads or writes while the call runs; it is not null
+ * even where `size` is 0. BUSDEKKER_LONGEST_CLEAN_SHEET bytes are always enough.
+ * A refusal writes nothing. The search itself is checked first (1 to 5, 7 to 9, with the place that busdekker_ask tells); then it is 13, place
+ * 0, where `size` is below the sheet's length.
+ */
+struct busdekker_written busdekker_write(const struct busdekker_search *search, uint8_t *buffer, size_t size);
+
 /* The archive lays the structs out so. */
 BUSDEKKER_ASSERT(sizeof(struct busdekker_opening) == 16, "an opening has 16 bytes");
 BUSDEKKER_ASSERT(offsetof(struct busdekker_opening, first) == 4, "first stands at 4");
@@ -200,6 +231,10 @@ BUSDEKKER_ASSERT(offsetof(struct busdekker_quotation, t) == 4, "t stands at 4");
 BUSDEKKER_ASSERT(offsetof(struct busdekker_quotation, most) == 8, "most stands at 8");
 BUSDEKKER_ASSERT(offsetof(struct busdekker_quotation, number) == 12, "number stands at 12");
 BUSDEKKER_ASSERT(offsetof(struct busdekker_quotation, place) == 16, "place stands at 16");
+BUSDEKKER_ASSERT(sizeof(struct busdekker_written) == 16, "what is told of a written sheet has 16 bytes");
+BUSDEKKER_ASSERT(offsetof(struct busdekker_written, length) == 4, "length stands at 4");
+BUSDEKKER_ASSERT(offsetof(struct busdekker_written, number) == 8, "number stands at 8");
+BUSDEKKER_ASSERT(offsetof(struct busdekker_written, place) == 12, "place stands at 12");
 BUSDEKKER_ASSERT(sizeof(struct busdekker_answered) == 340, "a report and a search have 340 bytes");
 BUSDEKKER_ASSERT(offsetof(struct busdekker_answered, search) == 32, "the search stands at 32");
 

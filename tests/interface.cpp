@@ -2,11 +2,15 @@
 // the one expected.
 #include "busdekker.h"
 
+#include <cstring>
+
 int main() {
     const busdekker_opening opening = {BUSDEKKER_M, 0, 2, 1};
     const busdekker_opening refused = {BUSDEKKER_R, 7, 7, 1};
     const int32_t values[] = {-1, 1};
     const uint8_t text[] = {'1', ',', '0', ',', '2', ',', '1', '\r', '\n'};
+    const char clean[] = "1,0,2,1\r\n0,-1\r\n";
+    uint8_t buffer[BUSDEKKER_LONGEST_CLEAN_SHEET];
     busdekker_search search;
     bool same = busdekker_version() == BUSDEKKER_VERSION;
     same = same && busdekker_quote(opening).kind == BUSDEKKER_QUOTED && busdekker_quote(refused).kind == BUSDEKKER_REFUSED;
@@ -18,5 +22,8 @@ int main() {
     same = same && busdekker_ask(&search).taken == 1;
     same = same && busdekker_values(opening, values, 2).better == 2;
     same = same && busdekker_sheet(text, sizeof text).kind == BUSDEKKER_NEXT;
+    const busdekker_written written = busdekker_write(&search, buffer, sizeof buffer);
+    same = same && written.kind == BUSDEKKER_WRITTEN && written.length == sizeof clean - 1 && std::memcmp(buffer, clean, written.length) == 0;
+    same = same && busdekker_write(&search, buffer, written.length - 1).number == BUSDEKKER_BUFFER_TOO_SHORT;
     return same ? 0 : 1;
 }

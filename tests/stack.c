@@ -24,6 +24,7 @@ static struct busdekker_search search;
 static int32_t point, value;
 static char text[BUSDEKKER_LONGEST_SHEET];
 static size_t length;
+static uint8_t clean[BUSDEKKER_LONGEST_CLEAN_SHEET];
 static uint32_t kinds;
 
 static void nothing(void) {
@@ -63,6 +64,12 @@ static void sheet(void) {
     kinds += busdekker_sheet((const uint8_t *)text, length).kind;
 }
 
+/* Into a buffer that is always enough, and into one that never is. */
+static void write_clean(void) {
+    kinds += busdekker_write(&search, clean, sizeof clean).kind;
+    kinds += busdekker_write(&search, clean, 0).kind;
+}
+
 /* The bytes of the painted stack that a function writes, or all of them where it could not be run there. */
 static size_t used(void (*function)(void)) {
     size_t untouched = 0;
@@ -89,8 +96,9 @@ static struct {
     void (*function)(void);
     size_t most;
 } calls[] = {
-    {"busdekker_version", version, 0}, {"busdekker_quote", quote, 0},   {"busdekker_open", open_anew, 0}, {"busdekker_entered", entered, 0},
-    {"busdekker_ask", ask, 0},         {"busdekker_values", values, 0}, {"busdekker_sheet", sheet, 0},    {"busdekker_enter", enter, 0},
+    {"busdekker_version", version, 0}, {"busdekker_quote", quote, 0},       {"busdekker_open", open_anew, 0},
+    {"busdekker_entered", entered, 0}, {"busdekker_ask", ask, 0},           {"busdekker_values", values, 0},
+    {"busdekker_sheet", sheet, 0},     {"busdekker_write", write_clean, 0}, {"busdekker_enter", enter, 0},
 };
 
 enum { CALLS = sizeof calls / sizeof calls[0] };

@@ -1,12 +1,12 @@
 //! The C interface of the proved library, include/busdekker.h, behind safe functions.
 
-use crate::types::{Answered, Opening, Quotation, Report, Search};
+use crate::types::{Answered, Opening, Quotation, Report, Search, Written};
 
 /// Who answers.
 pub const WHO: &str = "the proved library, target/staticlib/libbusdekker.a";
 
 /// The version of the interface that is declared here.
-pub const VERSION: u32 = 2;
+pub const VERSION: u32 = 3;
 
 extern "C" {
     fn busdekker_version() -> u32;
@@ -17,6 +17,7 @@ extern "C" {
     fn busdekker_ask(search: *const Search) -> Report;
     fn busdekker_values(opening: Opening, values: *const i32, length: usize) -> Report;
     fn busdekker_sheet(text: *const u8, length: usize) -> Report;
+    fn busdekker_write(search: *const Search, buffer: *mut u8, size: usize) -> Written;
 }
 
 /// The version of the interface that the library has.
@@ -65,4 +66,11 @@ pub fn values(opening: &Opening, values: &[i32]) -> Report {
 pub fn sheet(text: &[u8]) -> Report {
     // The pointer and the length are those of a slice, which is only read.
     unsafe { busdekker_sheet(text.as_ptr(), text.len()) }
+}
+
+/// The clean sheet of a held search, written at the beginning of the buffer.
+pub fn write(search: &Search, buffer: &mut [u8]) -> Written {
+    // The reference is to a whole search, which is only read. The pointer and the length are those
+    // of a slice that nobody else reads or writes.
+    unsafe { busdekker_write(search, buffer.as_mut_ptr(), buffer.len()) }
 }

@@ -5,6 +5,8 @@
 pub mod algol;
 pub mod beam;
 pub mod cases;
+pub mod checks;
+pub mod clean;
 pub mod counts;
 pub mod curves;
 #[allow(unsafe_code)]

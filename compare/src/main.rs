@@ -5,12 +5,12 @@
 #![forbid(unsafe_code)]
 
 use compare::cases::{self, Oven};
-use compare::ffi;
+use compare::checks::{agree, list_as_sheet, search_as_sheet, Checked, Tally};
+use compare::clean::clean_sheets;
 use compare::model::{self, Book};
 use compare::rng::Rng;
-use compare::types::{Opening, Quotation, Report, Search};
-use compare::{beam, sheets};
-use std::fmt::{self, Debug};
+use compare::types::{Opening, Report, Search};
+use compare::{beam, ffi, sheets};
 use std::process::ExitCode;
 use std::time::Instant;
 
@@ -30,9 +30,6 @@ const NARROW_SEARCHES: usize = 60;
 
 /// How often each of the widest search's orders is left on the way and answered otherwise.
 const BRANCHES: usize = 10;
-
-/// The error tells of the mismatch, with its input.
-type Checked = Result<(), String>;
 
 /// A part of the comparison.
 type Part = fn(&mut Rng, &mut Tally) -> Checked;
@@ -62,7 +59,7 @@ fn main() -> ExitCode {
 /// All parts in turn, and the number of cases.
 fn compare(rng: &mut Rng) -> Result<u64, String> {
     let mut cases = 0;
-    let parts: [(&str, Part); 7] = [
+    let parts: [(&str, Part); 8] = [
         ("lists of values", lists),
         ("runs of the trial book, from a fresh search", runs),
         ("calls in a row on searches that hold anything", held),
@@ -70,6 +67,7 @@ fn compare(rng: &mut Rng) -> Result<u64, String> {
         ("sheets that end in every short way", every_ending),
         ("orders of values that make searches long", long_orders),
         ("quotes", quotes),
+        ("clean sheets, into buffers of many lengths", clean_sheets),
     ];
     for (name, part) in parts {
         let start = Instant::now();
@@ -82,66 +80,7 @@ fn compare(rng: &mut Rng) -> Result<u64, String> {
     Ok(cases)
 }
 
-/// What was tried, and what was answered.
-#[derive(Default)]
-struct Tally {
-    cases: u64,
-    next: u64,
-    stop: u64,
-    quoted: u64,
-    refused: [u64; 13],
-}
-
-impl Tally {
-    fn count(&mut self, report: &Report) {
-        match report.kind {
-            Report::NEXT => self.next += 1,
-            Report::STOP => self.stop += 1,
-            _ => self.refused[report.number as usize] += 1,
-        }
-    }
-
-    fn count_quotation(&mut self, quotation: &Quotation) {
-        match quotation.kind {
-            Quotation::QUOTED => self.quoted += 1,
-            _ => self.refused[quotation.number as usize] += 1,
-        }
-    }
-}
-
-impl fmt::Display for Tally {
-    fn fmt(&self, f: &mut fmt::Formatter) -> fmt::Result {
-        let refused: u64 = self.refused.iter().sum();
-        let told = self.next + self.stop + self.quoted + refused;
-        write!(f, "told {told}")?;
-        let kinds = [
-            ("next", self.next),
-            ("stop", self.stop),
-            ("quoted", self.quoted),
-        ];
-        for (kind, times) in kinds.iter().filter(|(_, times)| *times > 0) {
-            write!(f, ", {kind} {times}")?;
-        }
-        let refused = self.refused.iter().enumerate();
-        for (number, times) in refused.filter(|(_, &times)| times > 0) {
-            write!(f, ", refuse {number} {times}")?;
-        }
-        Ok(())
-    }
-}
-
-/// A mismatch unless the two are the same.
-fn agree<T: PartialEq + Debug>(model: T, library: T, input: impl Fn() -> String) -> Checked {
-    if model == library {
-        return Ok(());
-    }
-    let input = input();
-    Err(format!(
-        "MISMATCH\n{input}\nmodel:   {model:?}\nlibrary: {library:?}"
-    ))
-}
-
-/// The same for two reports, which are counted, with the bound on the answers.
+/// A mismatch unless two reports, which are counted, are the same, with the bound on the answers.
 fn agree_on_report(
     opening: &Opening,
     (model, library): (Report, Report),
@@ -163,21 +102,6 @@ fn agree_on_report(
     Ok(())
 }
 
-/// A list of values as a sheet, with the points called for; 0 where none is.
-fn list_as_sheet(opening: &Opening, values: &[i32]) -> String {
-    let accepted = model::refused_opening(opening).is_none();
-    let mut book = accepted.then(|| Book::new(*opening));
-    let mut answers = Vec::new();
-    for &value in values {
-        let point = book.as_ref().and_then(Book::called).unwrap_or(0);
-        answers.push((point, value));
-        if let Some(book) = &mut book {
-            book.offer(point, value);
-        }
-    }
-    sheets::show(&sheets::write(opening, &answers))
-}
-
 /// A call on a held search.
 #[derive(Clone, Copy, Debug)]
 enum Call {
@@ -187,11 +111,8 @@ enum Call {
 }
 
 /// A held search as a sheet, then whole; and the call on it.
-fn search_as_sheet(search: &Search, call: Call) -> String {
-    let held = search.slots.iter().take(search.count as usize);
-    let values: Vec<i32> = held.copied().collect();
-    let sheet = list_as_sheet(&search.opening, &values);
-    format!("{sheet}held as {search:?}\ncall: {call:?}")
+fn search_and_call(search: &Search, call: Call) -> String {
+    format!("{}\ncall: {call:?}", search_as_sheet(search))
 }
 
 /// The search over lists of values.
@@ -226,7 +147,7 @@ fn run_agrees(rng: &mut Rng, tally: &mut Tally) -> Checked {
     let mut search = cases::any_search(rng);
     let before = search;
     let opened = ffi::open(&mut search, book.opening());
-    let input = || search_as_sheet(&before, Call::Open(*book.opening()));
+    let input = || search_and_call(&before, Call::Open(*book.opening()));
     search_agrees(&book, opened, &search, tally, input)?;
     let mut calls_after_stop = rng.below(4);
     while !rng.once_in(64) {
@@ -256,7 +177,7 @@ fn refused_opening_agrees(
 ) -> Checked {
     let before = *search;
     let opening = cases::refused_opening(rng);
-    let input = || search_as_sheet(&before, Call::Open(opening));
+    let input = || search_and_call(&before, Call::Open(opening));
     let mut model = book.search();
     let reports = (
         model::open(&mut model, &opening),
@@ -289,7 +210,7 @@ fn call_agrees(
     tally: &mut Tally,
 ) -> Checked {
     let before = *search;
-    let input = || search_as_sheet(&before, Call::Enter(point, value));
+    let input = || search_and_call(&before, Call::Enter(point, value));
     let answered = ffi::entered(before, point, value);
     let reports = (book.offer(point, value), ffi::enter(search, point, value));
     agree_on_report(book.opening(), reports, tally, input)?;
@@ -351,7 +272,7 @@ fn held_agrees(rng: &mut Rng, tally: &mut Tally) -> Checked {
                 ffi::enter(&mut library, point, value),
             ),
         };
-        let input = || search_as_sheet(&before, call);
+        let input = || search_and_call(&before, call);
         agree_on_report(&model.opening, reports, tally, input)?;
         agree(model, library, input)?;
         if let Call::Enter(point, value) = call {
@@ -363,7 +284,7 @@ fn held_agrees(rng: &mut Rng, tally: &mut Tally) -> Checked {
             )?;
         }
         let reports = (model::ask(&model), ffi::ask(&library));
-        let input = || search_as_sheet(&model, Call::Ask);
+        let input = || search_and_call(&model, Call::Ask);
         agree_on_report(&model.opening, reports, tally, input)?;
     }
     Ok(())

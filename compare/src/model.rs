@@ -1,7 +1,8 @@
-//! The model, from document 01 alone. Slow and plain: exact fractions, brackets kept in a list, the
-//! streak found by looking back over that list, and every report worked out from the beginning.
+//! The model, from document 01 and the requests since, and from nothing else. Slow and plain:
+//! exact fractions, brackets kept in a list, the streak found by looking back over that list, and
+//! every report worked out from the beginning.
 
-use crate::types::{Opening, Quotation, Report, Search, SLOTS};
+use crate::types::{Opening, Quotation, Report, Search, Written, SLOTS};
 use std::cmp::Ordering;
 
 /// An exact fraction. The denominator is above 0.
@@ -431,33 +432,84 @@ impl Book {
     }
 }
 
+/// The clean sheet of a held search, or the refusal of the search itself.
+pub fn clean(search: &Search) -> Result<Vec<u8>, Report> {
+    let answers = walk(&search.opening, held(search)?)?;
+    Ok(clean_records(&search.opening, &answers))
+}
+
+/// The clean sheet of a held search written into a lent buffer. Past the sheet, and where
+/// something is refused, the buffer stays as it is.
+pub fn write(search: &Search, buffer: &mut [u8]) -> Written {
+    let sheet = match clean(search) {
+        Ok(sheet) => sheet,
+        Err(refusal) => return Written::refuse(refusal.number, refusal.place),
+    };
+    if buffer.len() < sheet.len() {
+        return Written::refuse(13, 0);
+    }
+    buffer[..sheet.len()].copy_from_slice(&sheet);
+    Written::sheet(sheet.len() as u32)
+}
+
+/// What the program `clean` writes for a text: the clean sheet of the search that it is, or the
+/// record of the refusal.
+pub fn clean_text(text: &[u8]) -> Vec<u8> {
+    match read(text) {
+        Ok(book) => clean_records(&book.opening, &book.answers),
+        Err(refusal) => format!("{refusal}\r\n").into_bytes(),
+    }
+}
+
+/// The opening with its method as held, then every answer with its point.
+fn clean_records(opening: &Opening, answers: &[Answer]) -> Vec<u8> {
+    let o = opening;
+    let head = [o.method, o.first, o.second, o.tolerance];
+    let mut text = clean_record(&head.map(i128::from));
+    for answer in answers {
+        text += &clean_record(&[answer.point, answer.value]);
+    }
+    text.into_bytes()
+}
+
+/// No quotes, no leading zeros, no −0, CR LF at the end: numbers as Rust prints them.
+fn clean_record(numbers: &[i128]) -> String {
+    let fields: Vec<String> = numbers.iter().map(i128::to_string).collect();
+    fields.join(",") + "\r\n"
+}
+
 /// The sheet reader: the program's report of a text. Places are record numbers.
 pub fn sheet(text: &[u8]) -> Report {
-    let rows = match rows(text) {
-        Ok(rows) => rows,
-        Err(refusal) => return refusal,
-    };
+    match read(text) {
+        Ok(book) => book.report(),
+        Err(refusal) => refusal,
+    }
+}
+
+/// The book that a text is, its answers all taken, or the refusal. Places are record numbers.
+pub fn read(text: &[u8]) -> Result<Book, Report> {
+    let rows = rows(text)?;
     let head = &rows[0];
     let opening = Opening::new(head[0], head[1], head[2], head[3]);
     if let Some(number) = refused_opening(&opening) {
-        return Report::refuse(number, 1);
+        return Err(Report::refuse(number, 1));
     }
-    let mut taken: Vec<Answer> = Vec::new();
+    let mut answers: Vec<Answer> = Vec::new();
     for (row, record) in rows[1..].iter().zip(2..) {
         let (point, value) = (i128::from(row[0]), i128::from(row[1]));
-        let cause = match stand(&opening, &taken) {
+        let cause = match stand(&opening, &answers) {
             Stand::Stop(_) => 5,
             Stand::Call(called) if point != called => 6,
             Stand::Call(_) if !(-10_000..=10_000).contains(&value) => 7,
-            Stand::Call(_) if taken.len() == 1 && taken[0].value * value > 0 => 8,
+            Stand::Call(_) if answers.len() == 1 && answers[0].value * value > 0 => 8,
             Stand::Call(_) => {
-                taken.push(Answer { point, value });
+                answers.push(Answer { point, value });
                 continue;
             }
         };
-        return Report::refuse(cause, record);
+        return Err(Report::refuse(cause, record));
     }
-    report_of(&opening, &taken)
+    Ok(Book { opening, answers })
 }
 
 /// The whole text and each record in turn: the numbers of each record, or refusal 10, 11 or 12.

@@ -1,7 +1,9 @@
 //! The same search as a Rust programmer would write it for speed: a running state, 64-bit
 //! arithmetic, nothing on the heap. It is the benchmark's baseline.
 
-use crate::types::{Answered, Opening, Quotation, Report, Search, SLOTS};
+use crate::types::{
+    Answered, Opening, Quotation, Report, Search, Written, LONGEST_CLEAN_SHEET, SLOTS,
+};
 
 const HIGHEST_POINT: i32 = 20_000;
 const LARGEST_TOLERANCE: i32 = 5_000;
@@ -422,5 +424,99 @@ impl Reader<'_> {
         }
         self.rest = &rest[digits..];
         Some(if minus { -size } else { size })
+    }
+}
+
+/// The clean sheet of a held search, written at the beginning of the buffer. It is spelt on the
+/// stack while the search is walked, and copied when nothing can be refused any more: that is
+/// quicker than to keep the points, add up the length and then write.
+pub fn write(search: &Search, buffer: &mut [u8]) -> Written {
+    let mut text = [0; LONGEST_CLEAN_SHEET];
+    let length = match spell(search, &mut text) {
+        Ok(length) => length,
+        Err(refusal) => return Written::refuse(refusal.number, refusal.place),
+    };
+    match buffer.get_mut(..length) {
+        Some(sheet) => {
+            sheet.copy_from_slice(&text[..length]);
+            Written::sheet(length as u32)
+        }
+        None => Written::refuse(13, 0),
+    }
+}
+
+/// The clean sheet of a held search and its length, or the refusal.
+fn spell(search: &Search, text: &mut [u8; LONGEST_CLEAN_SHEET]) -> Result<usize, Report> {
+    let values = search.slots.get(..search.count as usize);
+    let values = values.ok_or(Report::refuse(9, 0))?;
+    let mut walk = Walk::new(&search.opening).map_err(|number| Report::refuse(number, 0))?;
+    let mut writer = Writer { text, length: 0 };
+    writer.opening(&search.opening);
+    for &value in values {
+        let point = walk.call as i32;
+        walk.take(value)
+            .map_err(|number| Report::refuse(number, walk.taken))?;
+        writer.answer(point, value);
+    }
+    Ok(writer.length)
+}
+
+/// Writes after what is written already.
+struct Writer<'a> {
+    text: &'a mut [u8; LONGEST_CLEAN_SHEET],
+    length: usize,
+}
+
+impl Writer<'_> {
+    fn opening(&mut self, opening: &Opening) {
+        self.number(opening.method);
+        self.byte(b',');
+        self.number(opening.first);
+        self.byte(b',');
+        self.number(opening.second);
+        self.byte(b',');
+        self.number(opening.tolerance);
+        self.line_end();
+    }
+
+    fn answer(&mut self, point: i32, value: i32) {
+        self.number(point);
+        self.byte(b',');
+        self.number(value);
+        self.line_end();
+    }
+
+    fn number(&mut self, number: i32) {
+        if number < 0 {
+            self.byte(b'-');
+        }
+        let mut size = number.unsigned_abs();
+        let end = self.length + digits(size);
+        for digit in self.text[self.length..end].iter_mut().rev() {
+            *digit = b'0' + (size % 10) as u8;
+            size /= 10;
+        }
+        self.length = end;
+    }
+
+    fn line_end(&mut self) {
+        self.byte(b'\r');
+        self.byte(b'\n');
+    }
+
+    fn byte(&mut self, byte: u8) {
+        self.text[self.length] = byte;
+        self.length += 1;
+    }
+}
+
+/// How many digits a number of at most five has.
+fn digits(size: u32) -> usize {
+    match size {
+        0..=9 => 1,
+        10..=99 => 2,
+        100..=999 => 3,
+        1_000..=9_999 => 4,
+        _ => 5,
     }
 }

@@ -4,6 +4,7 @@ use crate::cases;
 use crate::model;
 use crate::rng::Rng;
 use crate::types::{Opening, SLOTS};
+use std::fmt::{self, Debug};
 
 /// A record with its ending.
 type Record = Vec<u8>;
@@ -68,6 +69,16 @@ fn spell(n: i32, rng: &mut Rng) -> String {
 /// A text for the eye: odd bytes as escapes, and a new line after each CR LF.
 pub fn show(text: &[u8]) -> String {
     text.escape_ascii().to_string().replace(r"\r\n", "\\r\\n\n")
+}
+
+/// Bytes that are shown so where they are printed.
+#[derive(Clone, PartialEq, Eq)]
+pub struct Text(pub Vec<u8>);
+
+impl Debug for Text {
+    fn fmt(&self, f: &mut fmt::Formatter) -> fmt::Result {
+        f.write_str(&show(&self.0))
+    }
 }
 
 /// A text of any kind: whole, damaged, too long, with too many records, or not a sheet at all.

@@ -6,6 +6,10 @@ use std::mem::{offset_of, size_of};
 /// The slots of a held search.
 pub const SLOTS: usize = 72;
 
+/// The bytes that the clean sheet of every search fits in: 20 for the opening and 14 for each
+/// answer.
+pub const LONGEST_CLEAN_SHEET: usize = 1_028;
+
 /// An opening: method, x0, x1 and τ, each as it was offered.
 #[repr(C)]
 #[derive(Clone, Copy, Debug, PartialEq, Eq)]
@@ -165,6 +169,39 @@ impl Quotation {
     }
 }
 
+/// What is told of a sheet that is to be written: its length, or a refusal. A number that its kind
+/// has not is 0.
+#[repr(C)]
+#[derive(Clone, Copy, Debug, PartialEq, Eq)]
+pub struct Written {
+    pub kind: u32,
+    pub length: u32,
+    pub number: u32,
+    pub place: u32,
+}
+
+impl Written {
+    pub const WRITTEN: u32 = 5;
+
+    pub const fn sheet(length: u32) -> Self {
+        Written {
+            kind: Self::WRITTEN,
+            length,
+            number: 0,
+            place: 0,
+        }
+    }
+
+    pub const fn refuse(number: u32, place: u32) -> Self {
+        Written {
+            kind: Report::REFUSED,
+            length: 0,
+            number,
+            place,
+        }
+    }
+}
+
 /// A report, and beside it the search as it then is.
 #[repr(C)]
 #[derive(Clone, Copy, Debug, PartialEq, Eq)]
@@ -195,6 +232,10 @@ const _: () = {
     assert!(offset_of!(Quotation, most) == 8);
     assert!(offset_of!(Quotation, number) == 12);
     assert!(offset_of!(Quotation, place) == 16);
+    assert!(size_of::<Written>() == 16);
+    assert!(offset_of!(Written, length) == 4);
+    assert!(offset_of!(Written, number) == 8);
+    assert!(offset_of!(Written, place) == 12);
     assert!(size_of::<Answered>() == 340);
     assert!(offset_of!(Answered, search) == 32);
 };

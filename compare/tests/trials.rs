@@ -1,12 +1,12 @@
-//! Document 01's worked trials, tried on the model, on the plain code and on the proved library; then
-//! the model against the plain code on random cases.
+//! Document 01's worked trials, and those of the requests since, tried on the model, on the plain
+//! code and on the proved library; then the model against the plain code on random cases.
 
 use compare::cases;
 use compare::model::{self, Book};
 use compare::plain;
 use compare::rng::Rng;
 use compare::sheets;
-use compare::types::{Opening, Quotation, Report, Search, SLOTS};
+use compare::types::{Opening, Quotation, Report, Search, Written, LONGEST_CLEAN_SHEET, SLOTS};
 use compare::{beam, ffi};
 
 const M: Opening = Opening::new(1, 0, 100, 1);
@@ -271,6 +271,121 @@ fn held_searches_by_value() {
     }
 }
 
+type Write = fn(&Search, &mut [u8]) -> Written;
+
+const WRITERS: [Write; 3] = [model::write, plain::write, ffi::write];
+
+/// Tries the clean sheet of a held search on all three: into a buffer that is longer, whose
+/// further bytes stay; into one of its length; and into one that is a byte shorter, which stays as
+/// it is. The sheet is then reported on as the search is.
+fn clean_trial(search: &Search, sheet: &str) {
+    let length = sheet.len();
+    for write in WRITERS {
+        let mut longer = vec![b'#'; length + 3];
+        assert_eq!(write(search, &mut longer), Written::sheet(length as u32));
+        assert_eq!(longer, format!("{sheet}###").as_bytes());
+        let mut just = vec![b'#'; length];
+        assert_eq!(write(search, &mut just), Written::sheet(length as u32));
+        assert_eq!(just, sheet.as_bytes());
+        let mut shorter = vec![b'#'; length - 1];
+        assert_eq!(write(search, &mut shorter), Written::refuse(13, 0));
+        assert_eq!(shorter, vec![b'#'; length - 1]);
+        assert_eq!(write(search, &mut []), Written::refuse(13, 0));
+    }
+    sheet_trial(sheet.as_bytes(), &model::ask(search).to_string());
+}
+
+/// The search that holds these values.
+fn holding(opening: Opening, values: &[i32]) -> Search {
+    Book::of(opening, values).search()
+}
+
+#[test]
+fn clean_sheets() {
+    clean_trial(
+        &holding(M, &[-50, 100, -10, -2, 1]),
+        "1,0,100,1\r\n0,-50\r\n100,100\r\n33,-10\r\n41,-2\r\n43,1\r\n",
+    );
+    clean_trial(&holding(M, &[]), "1,0,100,1\r\n");
+    clean_trial(&holding(M, &[7]), "1,0,100,1\r\n0,7\r\n");
+    clean_trial(&holding(M, &[0]), "1,0,100,1\r\n0,0\r\n");
+}
+
+/// The house default stays 0, though it is M.
+#[test]
+fn clean_sheets_keep_the_method() {
+    let house = Opening::new(0, 0, 100, 1);
+    clean_trial(&holding(house, &[-50]), "0,0,100,1\r\n0,-50\r\n");
+    clean_trial(&holding(R, &[-50]), "2,0,100,1\r\n0,-50\r\n");
+}
+
+/// The numbers with the most digits, and the first end above the second.
+#[test]
+fn long_records_of_clean_sheets() {
+    let widest = Opening::new(2, 20_000, 0, 5_000);
+    clean_trial(
+        &holding(widest, &[-10_000, 10_000]),
+        "2,20000,0,5000\r\n20000,-10000\r\n0,10000\r\n",
+    );
+    clean_trial(
+        &holding(Opening::new(0, 20_000, 19_999, 5_000), &[-10_000]),
+        "0,20000,19999,5000\r\n20000,-10000\r\n",
+    );
+    let (opening, answer) = ("0,20000,19999,5000\r\n", "20000,-10000\r\n");
+    let longest = opening.len() + answer.len() * SLOTS;
+    assert_eq!(longest, LONGEST_CLEAN_SHEET);
+}
+
+/// What the slots past the count hold is not seen.
+#[test]
+fn clean_sheets_of_slots_in_use() {
+    let mut search = holding(M, &[-50, 100]);
+    search.slots[2..].fill(i32::MIN);
+    clean_trial(&search, "1,0,100,1\r\n0,-50\r\n100,100\r\n");
+}
+
+/// The search itself is checked before the buffer, and nothing is written.
+#[test]
+fn clean_sheets_refused() {
+    let with = |count, first| {
+        let mut search = Search::fresh(Opening::new(1, 0, 2, 1));
+        search.count = count;
+        search.slots[..2].copy_from_slice(&[first, 1]);
+        search
+    };
+    let mut spoilt = with(2, -1);
+    spoilt.opening.second = 0;
+    let refused = [
+        (with(73, -1), Written::refuse(9, 0)),
+        (with(u32::MAX, -1), Written::refuse(9, 0)),
+        (spoilt, Written::refuse(3, 0)),
+        (with(1, 10_001), Written::refuse(7, 0)),
+        (with(2, 1), Written::refuse(8, 1)),
+        (with(3, -1), Written::refuse(5, 2)),
+    ];
+    for (search, refusal) in refused {
+        for write in WRITERS {
+            let mut buffer = [b'#'; LONGEST_CLEAN_SHEET];
+            assert_eq!(write(&search, &mut buffer), refusal, "{search:?}");
+            assert_eq!(buffer, [b'#'; LONGEST_CLEAN_SHEET]);
+            assert_eq!(write(&search, &mut []), refusal, "{search:?}");
+        }
+    }
+}
+
+/// What the program `clean` writes, on the model: the sheet is read as a search, and that is
+/// written.
+#[test]
+fn sheets_cleaned() {
+    let cleaned = |text: &str| String::from_utf8(model::clean_text(text.as_bytes())).unwrap();
+    let odd = "\"00\",00100,-0,\"00001\"\r\n\"00100\",-0\r\n-0000,\"-00050\"";
+    let clean = "0,100,0,1\r\n100,0\r\n0,-50\r\n";
+    assert_eq!(cleaned(odd), clean);
+    assert_eq!(cleaned(clean), clean);
+    assert_eq!(cleaned(""), "refuse,12,1\r\n");
+    assert_eq!(cleaned("1,0,100,1\r\n1,-50\r\n"), "refuse,6,2\r\n");
+}
+
 #[test]
 fn version_of_the_interface() {
     assert_eq!(ffi::version(), ffi::VERSION);
@@ -357,5 +472,23 @@ fn model_and_plain_on_sheets() {
             "{}",
             sheets::show(&text)
         );
+    }
+}
+
+#[test]
+fn model_and_plain_on_clean_sheets() {
+    let mut rng = Rng::new(8);
+    for _ in 0..5_000 {
+        let search = cases::any_search(&mut rng);
+        let length = model::clean(&search).map_or(0, |sheet| sheet.len());
+        for size in [0, length.saturating_sub(1), length, length + 1] {
+            let (mut one, mut other) = (vec![b'#'; size], vec![b'#'; size]);
+            let (model, plain) = (
+                model::write(&search, &mut one),
+                plain::write(&search, &mut other),
+            );
+            assert_eq!(model, plain, "{search:?}");
+            assert_eq!(one, other, "{search:?}");
+        }
     }
 }

@@ -3,7 +3,7 @@
 #![forbid(unsafe_code)]
 
 use compare::rng::Rng;
-use compare::types::{Answered, Opening, Report, Search};
+use compare::types::{Answered, Opening, Report, Search, Written, LONGEST_CLEAN_SHEET};
 use compare::{beam, cases, ffi, model, plain, sheets};
 use std::hint::black_box;
 use std::time::Instant;
@@ -48,6 +48,7 @@ struct Calls {
     entered: fn(Search, i32, i32) -> Answered,
     values: fn(&Opening, &[i32]) -> Report,
     sheet: fn(&[u8]) -> Report,
+    write: fn(&Search, &mut [u8]) -> Written,
 }
 
 const LIBRARY: Calls = Calls {
@@ -55,6 +56,7 @@ const LIBRARY: Calls = Calls {
     entered: ffi::entered,
     values: ffi::values,
     sheet: ffi::sheet,
+    write: ffi::write,
 };
 
 const PLAIN: Calls = Calls {
@@ -62,6 +64,7 @@ const PLAIN: Calls = Calls {
     entered: plain::entered,
     values: plain::values,
     sheet: plain::sheet,
+    write: plain::write,
 };
 
 /// An operation over all works: it gives the nanoseconds that it took.
@@ -103,7 +106,7 @@ fn long(rng: &mut Rng) -> Vec<Work> {
     works
 }
 
-/// Four lines of the table.
+/// Five lines of the table.
 fn table(kind: &str, works: &[Work]) {
     let searches = works.len();
     let answers: usize = works.iter().map(|work| work.values.len()).sum();
@@ -118,6 +121,7 @@ fn table(kind: &str, works: &[Work]) {
     line("  an answer, by value", works, answers, &entering_by_value);
     line("  a list of values", works, searches, &listing);
     line("  a sheet", works, searches, &reading);
+    line("  a clean sheet written", works, searches, &writing);
 }
 
 /// How the cost of an answer, entered into the host's search, grows with the answers before it.
@@ -216,4 +220,19 @@ fn reading(calls: Calls, works: &[Work]) -> f64 {
         black_box((calls.sheet)(black_box(&work.sheet)));
     }
     start.elapsed().as_nanos() as f64
+}
+
+/// The clean sheet of every work's search at its stop. All of them go into one buffer, one after
+/// the other; it is not cleared between them.
+fn writing(calls: Calls, works: &[Work]) -> f64 {
+    let stopped = |work: &Work| work.holding(work.values.len());
+    let searches: Vec<Search> = works.iter().map(stopped).collect();
+    let mut buffer = [0; LONGEST_CLEAN_SHEET];
+    let start = Instant::now();
+    for search in &searches {
+        black_box((calls.write)(black_box(search), black_box(&mut buffer)));
+    }
+    let time = start.elapsed();
+    black_box(&buffer);
+    time.as_nanos() as f64
 }

@@ -9,11 +9,12 @@ use borrow.Author.Tests.{lt-ltb}
 use lib.ListN.{length, length-append}
 use Rattle.held.specs.declared.Entered.{Entered}
 use Rattle.forms.specs.Entries.{longestText, wholeText, tooLong, refused, entriesOf}
-use Rattle.printing.specs.Printed.{recordOf, placed, placedLength}
+use Rattle.printing.specs.Printed.{placed, placedLength}
 use Rattle.printing.specs.PrintedLaws.{written-within}
 use Rattle.outcomes.specs.Sheet.{sheetOf}
 use Rattle.input.specs.declared.Filled.{Filled}
-use Rattle.replies.specs.Reply.{Record, Answers}
+use Rattle.replies.specs.declared.Reply.{Reply}
+use Rattle.replies.specs.Reply.{replyOf, Replied, Answers}
 
 entries-long : (text : List ℕ) → longestText < length text → entriesOf text ≡ refused tooLong wholeText
 unfolding entriesOf
@@ -24,17 +25,17 @@ sheet-long : (s t : List ℕ) → longestText < length s → longestText < lengt
 unfolding sheetOf
 sheet-long s t h k = rw (entries-long s h, entries-long t k)
 
-pub goes-on : {buffer before : List ℕ} {n : ℕ} {after : List ℕ} → longestText < length buffer → Record buffer before n after
-    → (rest : List ℕ) → Record (buffer ++ rest) before n after
-goes-on {buffer} {before} h r rest =
+pub goes-on : {reply : Reply} {buffer before : List ℕ} {n : ℕ} {after : List ℕ} → longestText < length buffer → Replied reply buffer before n after
+    → (rest : List ℕ) → Replied reply (buffer ++ rest) before n after
+goes-on {reply} {buffer} {before} h r rest =
     let same = sheet-long buffer (buffer ++ rest) h (omega (arith, length-append buffer rest)) in
     record {
-      long = r .long ∙ ap (λ (e : Entered). placedLength (recordOf (e .report)) before) same;
-      text = r .text ∙ ap (λ (e : Entered). placed (recordOf (e .report)) before) same;
+      long = r .long ∙ ap (λ (e : Entered). placedLength (replyOf reply e) before) same;
+      text = r .text ∙ ap (λ (e : Entered). placed (replyOf reply e) before) same;
     }
 
-pub answers-within : (filled : Filled) (buffer before : List ℕ) (n : ℕ) (after : List ℕ) → Answers filled buffer before n after
+pub answers-within : (reply : Reply) (filled : Filled) (buffer before : List ℕ) (n : ℕ) (after : List ℕ) → Answers reply filled buffer before n after
     → n ≤ length after
-answers-within Filled.Full buffer before n after a = let r = a [] in written-within _ _ _ _ (r .long) (r .text)
-answers-within (Filled.Ended k) buffer before n after r = written-within _ _ _ _ (r .long) (r .text)
-answers-within Filled.Failed buffer before n after r = omega arith
+answers-within reply Filled.Full buffer before n after a = let r = a [] in written-within _ _ _ _ (r .long) (r .text)
+answers-within reply (Filled.Ended k) buffer before n after r = written-within _ _ _ _ (r .long) (r .text)
+answers-within reply Filled.Failed buffer before n after r = omega arith

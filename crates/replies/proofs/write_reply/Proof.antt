@@ -1,4 +1,4 @@
--- `replies::write_record` meets its contract: an input that fills the buffer is too long, however it goes on.
+-- `replies::write_reply` meets its contract: an input that fills the buffer is too long, however it goes on.
 -- Assumes nothing.
 use Prim.Native.Nat.{_+_, _<_}
 use mathlib.Core.Path.{_≡_, refl, sym, subst}
@@ -11,8 +11,8 @@ use Rattle.input.specs.declared.Filled.{Filled}
 use Rattle.input.specs.Input.{Within}
 use Rattle.replies.specs.Reply.{Answers}
 use Rattle.replies.specs.ReplyLaws.{goes-on}
-use Rattle.replies.proofs.write_record.Statement.{statement}
-use Rattle.replies.proofs.write_record.Tie as tie
+use Rattle.replies.proofs.write_reply.Statement.{statement}
+use Rattle.replies.proofs.write_reply.Tie as tie
 
 -- the buffer is longer than the longest text
 long : (c : tie.After-bytes) → length (c .before .before .args .text .now) ≡ longestText + 1
@@ -27,17 +27,17 @@ ended c =
 enum-told : tie.Need-enum-told
 enum-told c = search needs
 
-answer-sheet-requires : tie.Need-answer-sheet-requires
-answer-sheet-requires c κs = search needs
+reply-to-requires : tie.Need-reply-to-requires
+reply-to-requires c κs = search needs
 
 enum-known-filled : tie.Need-enum-known-filled
 enum-known-filled c = search needs
 
-slice-aggregate-answer-sheet : tie.Need-slice-aggregate-answer-sheet
-slice-aggregate-answer-sheet c = sym (length-take-le _ _ (omega (arith, ended (c .before .before))))
+slice-aggregate-reply-to : tie.Need-slice-aggregate-reply-to
+slice-aggregate-reply-to c = sym (length-take-le _ _ (omega (arith, ended (c .before .before))))
 
-answer-sheet-requires-2 : tie.Need-answer-sheet-requires-2
-answer-sheet-requires-2 c κs = search needs
+reply-to-requires-2 : tie.Need-reply-to-requires-2
+reply-to-requires-2 c κs = search needs
 
 enum-told-2 : tie.Need-enum-told-2
 enum-told-2 c = search needs
@@ -49,10 +49,10 @@ returns : tie.Need-returns
 returns c =
     let told = c .before .before .before .before in
     let start = told .before .before .before .before in
-    let called = c .before .before .answer-sheet in
-    subst (λ (f : Filled). Answers f (start .args .text .now) (start .args .out .now) (called .result) (called .last .1 .0))
+    let called = c .before .before .reply-to in
+    subst (λ (f : Filled). Answers (start .args .reply) f (start .args .text .now) (start .args .out .now) (called .result) (called .last .1 .1 .0))
     (sym (told .enum-told .given .1))
-    (goes-on (omega (arith, long (told .before .before))) (record { long = called .ensures .0; text = called .ensures .1 }))
+    (goes-on (omega (arith, long (told .before .before))) (called .ensures))
 
 same-length-2 : tie.Need-same-length-2
 same-length-2 c = search needs
@@ -61,25 +61,25 @@ returns-2 : tie.Need-returns-2
 returns-2 c =
     let told = c .before .before .before .before .before .before in
     let start = told .before .before .before .before in
-    let called = c .before .before .answer-sheet2 in
-    subst (λ (f : Filled). Answers f (start .args .text .now) (start .args .out .now) (called .result) (called .last .1 .0))
+    let called = c .before .before .reply-to2 in
+    subst (λ (f : Filled). Answers (start .args .reply) f (start .args .text .now) (start .args .out .now) (called .result) (called .last .1 .1 .0))
     (sym (told .filled .given .1))
-    (record { long = called .ensures .0; text = called .ensures .1 })
+    (called .ensures)
 
 returns-3 : tie.Need-returns-3
 returns-3 c =
     let x = c .before .before .before .before .args in
-    subst (λ (f : Filled). Answers f (x .text .now) (x .out .now) 0 (x .out .now)) (sym (c .enum-told2 .given .1)) (refl, refl)
+    subst (λ (f : Filled). Answers (x .reply) f (x .text .now) (x .out .now) 0 (x .out .now)) (sym (c .enum-told2 .given .1)) (refl, refl)
 
-pub write-record-spec : {M : Type 1} → statement M
-write-record-spec =
+pub write-reply-spec : {M : Type 1} → statement M
+write-reply-spec =
     tie.close
     (tie.spec
     enum-told
-    answer-sheet-requires
+    reply-to-requires
     enum-known-filled
-    slice-aggregate-answer-sheet
-    answer-sheet-requires-2
+    slice-aggregate-reply-to
+    reply-to-requires-2
     enum-told-2
     same-length
     returns

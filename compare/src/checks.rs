@@ -1,0 +1,105 @@
+//! What the parts of the comparison share: mismatches with their input, and the tally of what was
+//! tried and answered.
+
+use crate::model::{self, Book};
+use crate::sheets;
+use crate::types::{Opening, Quotation, Report, Search, Written};
+use std::fmt::{self, Debug};
+
+/// The error tells of the mismatch, with its input.
+pub type Checked = Result<(), String>;
+
+/// A mismatch unless the two are the same.
+pub fn agree<T: PartialEq + Debug>(
+    expected: T,
+    answered: T,
+    input: impl Fn() -> String,
+) -> Checked {
+    if expected == answered {
+        return Ok(());
+    }
+    let input = input();
+    Err(format!(
+        "MISMATCH\n{input}\nexpected: {expected:?}\nanswered: {answered:?}"
+    ))
+}
+
+/// A list of values as a sheet, with the points called for; 0 where none is.
+pub fn list_as_sheet(opening: &Opening, values: &[i32]) -> String {
+    let accepted = model::refused_opening(opening).is_none();
+    let mut book = accepted.then(|| Book::new(*opening));
+    let mut answers = Vec::new();
+    for &value in values {
+        let point = book.as_ref().and_then(Book::called).unwrap_or(0);
+        answers.push((point, value));
+        if let Some(book) = &mut book {
+            book.offer(point, value);
+        }
+    }
+    sheets::show(&sheets::write(opening, &answers))
+}
+
+/// A held search as a sheet, then whole.
+pub fn search_as_sheet(search: &Search) -> String {
+    let held = search.slots.iter().take(search.count as usize);
+    let values: Vec<i32> = held.copied().collect();
+    let sheet = list_as_sheet(&search.opening, &values);
+    format!("{sheet}held as {search:?}")
+}
+
+/// What was tried, and what was answered.
+#[derive(Default)]
+pub struct Tally {
+    pub cases: u64,
+    next: u64,
+    stop: u64,
+    quoted: u64,
+    written: u64,
+    refused: [u64; 14],
+}
+
+impl Tally {
+    pub fn count(&mut self, report: &Report) {
+        match report.kind {
+            Report::NEXT => self.next += 1,
+            Report::STOP => self.stop += 1,
+            _ => self.refused[report.number as usize] += 1,
+        }
+    }
+
+    pub fn count_quotation(&mut self, quotation: &Quotation) {
+        match quotation.kind {
+            Quotation::QUOTED => self.quoted += 1,
+            _ => self.refused[quotation.number as usize] += 1,
+        }
+    }
+
+    pub fn count_written(&mut self, written: &Written) {
+        match written.kind {
+            Written::WRITTEN => self.written += 1,
+            _ => self.refused[written.number as usize] += 1,
+        }
+    }
+}
+
+impl fmt::Display for Tally {
+    fn fmt(&self, f: &mut fmt::Formatter) -> fmt::Result {
+        let refused: u64 = self.refused.iter().sum();
+        let told = self.next + self.stop + self.quoted + self.written + refused;
+        write!(f, "told {told}")?;
+        let kinds = [
+            ("next", self.next),
+            ("stop", self.stop),
+            ("quoted", self.quoted),
+            ("written", self.written),
+        ];
+        for (kind, times) in kinds.iter().filter(|(_, times)| *times > 0) {
+            write!(f, ", {kind} {times}")?;
+        }
+        let refused = self.refused.iter().enumerate();
+        for (number, times) in refused.filter(|(_, &times)| times > 0) {
+            write!(f, ", refuse {number} {times}")?;
+        }
+        Ok(())
+    }
+}
