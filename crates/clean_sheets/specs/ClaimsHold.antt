@@ -65,7 +65,7 @@ module _ (o : Opening) (vs : List ℤ) (fine : isRefused (progressOf o vs) ≡ f
       let op = opened o accepted in
       text-clean o journal (spellable-opening o op) (spellable-journal o op journal kept)
 
-  is-short : length (sheetText o journal) ≤ longestSheet
+  pub is-short : length (sheetText o journal) ≤ longestSheet
   is-short =
       let op = opened o accepted in
       let answers = answers-short o (beginOf o) vs (spellable-journal o op journal kept) in
@@ -115,10 +115,6 @@ module _ (s : Search) (a : AcceptedSearch s) where
       ∙ ap (reportOf o) (same-values o (beginOf o) (valuesOf s))
       ∙ ap (reportAt o) (sym (stands .1))
 
-  pub sheet-within : length (cleanOf s) ≤ longestSheet
-  unfolding cleanOf
-  sheet-within = is-short o (valuesOf s) values-accepted
-
 pub clean-sheets : EveryCleanSheet
 unfolding cleanOf
 clean-sheets s a =
@@ -134,7 +130,7 @@ clean-sheets s a =
       spelled = clean-sheet (is-clean o vs fine);
       restored = reads-back o vs fine ∙ ap₂ (λ (r : Report) (h : Search). record { report = r; search = h }) (reports s a) (holds s a);
       same = λ s' e f. ap₂ (λ (u : Opening) (ws : List ℤ). sheetText u (withPoints u (beginOf u) ws)) e f;
-      short = sheet-within s a;
+      short = is-short o vs fine;
     }
 
 -- ---- of a sheet that is accepted

@@ -14,8 +14,7 @@ use Rattle.rules.specs.declared.Opening.{Opening}
 use Rattle.rules.specs.declared.Progress.{Progress}
 use Rattle.rules.specs.Search.{isRefused, beginOf, enteredAt, takeOf, progressOf}
 use Rattle.rules.specs.SearchLaws.{SoundAt, sound-begin, sound-offer, accepted-of, Taken}
-use Rattle.held.specs.declared.Search.{Search}
-use Rattle.clean_sheets.specs.Clean.{calledAt, withPoints, heldAnswers, answersText, cleanOf}
+use Rattle.clean_sheets.specs.Clean.{calledAt, withPoints, answersText, sheetText}
 use Rattle.clean_sheets.specs.AnswersLaws.{begins, first-of}
 use Rattle.clean_lines.specs.Pieces.{openingText, answerText, spliced}
 use Rattle.clean_lines.specs.PiecesLaws.{sheet-records, answer-record, spliced-length, spliced-more}
@@ -108,14 +107,21 @@ module _ {o : Opening} {vs : List ℤ} {out₀ : List ℕ} {at : ℕ} {out : Lis
 
 -- ---- the whole sheet: the opening's record, and then the answers'
 
-pub whole-text : (s : Search) → cleanOf s ≡ openingText (s .opening) ++ answersText (heldAnswers s)
-unfolding cleanOf
-whole-text s = sheet-records (s .opening) (heldAnswers s)
+-- of accepted values, from scratch
+abbrev pub allAnswers : Opening → List ℤ → List ℕ
+allAnswers o vs = leftOf o (beginOf o) vs
 
-pub whole-length : (s : Search) → length (cleanOf s) ≡ length (openingText (s .opening)) + length (answersText (heldAnswers s))
-whole-length s = ap length (whole-text s) ∙ length-append (openingText (s .opening)) (answersText (heldAnswers s))
+abbrev pub wholeSheet : Opening → List ℤ → List ℕ
+wholeSheet o vs = sheetText o (withPoints o (beginOf o) vs)
 
-pub whole-spliced : (s : Search) (b : List ℕ) → length (cleanOf s) ≤ length b
-    → spliced (spliced b 0 (openingText (s .opening))) (0 + length (openingText (s .opening))) (answersText (heldAnswers s)) ≡ spliced b 0 (cleanOf s)
-whole-spliced s b h =
-    spliced-more b 0 (openingText (s .opening)) (answersText (heldAnswers s)) (omega (arith, whole-length s)) ∙ ap (spliced b 0) (sym (whole-text s))
+module _ (o : Opening) (vs : List ℤ) where
+  whole-text : wholeSheet o vs ≡ openingText o ++ allAnswers o vs
+  whole-text = sheet-records o (withPoints o (beginOf o) vs)
+
+  pub whole-length : length (wholeSheet o vs) ≡ length (openingText o) + length (allAnswers o vs)
+  whole-length = ap length whole-text ∙ length-append (openingText o) (allAnswers o vs)
+
+  pub whole-spliced : (b : List ℕ) → length (wholeSheet o vs) ≤ length b
+      → spliced (spliced b 0 (openingText o)) (0 + length (openingText o)) (allAnswers o vs) ≡ spliced b 0 (wholeSheet o vs)
+  whole-spliced b h =
+      spliced-more b 0 (openingText o) (allAnswers o vs) (omega (arith, whole-length)) ∙ ap (spliced b 0) (sym whole-text)

@@ -2,11 +2,10 @@
 ghost use mathlib.Core.Path.{_≡_};
 ghost use mathlib.Core.Bool.{false};
 ghost use Prim.Native.Nat.{_+_, _≤_};
-ghost use lib.ListN.{length};
+ghost use lib.ListN.{length, take};
 ghost use Rattle.rules.specs.Search.{isRefused, beginOf, progressOf};
 ghost use Rattle.printing.specs.Printed.{placed};
-ghost use Rattle.clean_sheets.specs.Clean.{withPoints, answersText, cleanOf, fittedIn, writtenOf, bufferOf};
-ghost use Rattle.clean_sheets.specs.Claims.{AcceptedSearch};
+ghost use Rattle.clean_sheets.specs.Clean.{withPoints, answersText, sheetText, fittedIn, writtenOf, bufferOf};
 ghost use Rattle.clean_lines.specs.Pieces.{spliced};
 use clean_sheets::Written;
 use held::Search;
@@ -34,27 +33,26 @@ fn answers_into(o: Opening, values: &[i32], out: &mut [u8], at: usize) -> usize
     end
 }
 
-// The clean sheet of an accepted search at the beginning of a buffer that is long enough for it, and its length.
-fn sheet_into(s: Search, out: &mut [u8]) -> usize
-    requires { ⌜ (AcceptedSearch s) × (length (cleanOf s) ≤ length (now out)) ⌝ }
-    ensures { λ r. ⌜ r ≡ length (cleanOf s) ⌝ }
-    ensures { λ _. ⌜ now (out .exit) ≡ spliced (now (out .entry)) 0 (cleanOf s) ⌝ }
+// The clean sheet of an opening and accepted values at the beginning of a buffer that is long enough for it, and its length.
+fn sheet_into(o: Opening, values: &[i32], out: &mut [u8]) -> usize
+    requires { ⌜ (isRefused (progressOf o (now values)) ≡ false)
+        × (length (sheetText o (withPoints o (beginOf o) (now values))) ≤ length (now out)) ⌝ }
+    ensures { λ r. ⌜ r ≡ length (sheetText o (withPoints o (beginOf o) (now (values .entry)))) ⌝ }
+    ensures { λ _. ⌜ now (out .exit) ≡ spliced (now (out .entry)) 0 (sheetText o (withPoints o (beginOf o) (now (values .entry)))) ⌝ }
 {
-    let o = s.opening;
     let at = clean_lines::put_line(clean_lines::opening_line(o), out, 0);
-    let n = s.count as usize;
-    let slots = s.slots;
-    answers_into(o, &slots[..n], out, at)
+    answers_into(o, values, out, at)
 }
 
-// The clean sheet of an accepted search, where the buffer is long enough.
-fn write_accepted(search: Search, out: &mut [u8]) -> Written
-    requires { ⌜ AcceptedSearch search ⌝ }
-    ensures { λ r. ⌜ r ≡ fittedIn (now (out .entry)) (cleanOf search) ⌝ }
-    ensures { λ _. ⌜ now (out .exit) ≡ placed (cleanOf search) (now (out .entry)) ⌝ }
+// The clean sheet of an accepted search's parts, where the buffer is long enough.
+fn write_accepted(o: Opening, count: u32, slots: &[i32], out: &mut [u8]) -> Written
+    requires { ⌜ (count ≤ length (now slots)) × (isRefused (progressOf o (take count (now slots))) ≡ false) ⌝ }
+    ensures { λ r. ⌜ r ≡ fittedIn (now (out .entry)) (sheetText o (withPoints o (beginOf o) (take count (now (slots .entry))))) ⌝ }
+    ensures { λ _. ⌜ now (out .exit) ≡ placed (sheetText o (withPoints o (beginOf o) (take count (now (slots .entry))))) (now (out .entry)) ⌝ }
 {
     let mut sheet = [0u8; clean_sheets::LONGEST_SHEET];
-    let length = sheet_into(search, &mut sheet);
+    let n = count as usize;
+    let length = sheet_into(o, &slots[..n], &mut sheet);
     if out.len() < length {
         return Written::Refused {
             number: rules::BUFFER_TOO_SHORT,
@@ -78,5 +76,5 @@ pub fn write_sheet(search: Search, out: &mut [u8]) -> Written
     if let Report::Refused { number, place } = report {
         return Written::Refused { number, place };
     }
-    write_accepted(search, out)
+    write_accepted(search.opening, search.count, &search.slots, out)
 }

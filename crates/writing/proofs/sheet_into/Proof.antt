@@ -1,19 +1,15 @@
 -- `writing::sheet_into` meets its contract: the opening's record at the beginning, and the answers' behind it.
 -- Assumes nothing.
-use Prim.Native.Nat.{ℕ, _+_, _≤_}
-use mathlib.Core.Path.{_≡_, sym, ap, ap₂, _∙_}
+use Prim.Native.Nat.{ℕ, _+_}
+use mathlib.Core.Path.{_≡_, ap, ap₂, _∙_}
 use mathlib.Core.List.{List}
 use native.Mathlib.Omega.{arith}
 use lib.ListN.{length}
-use lib.Seq.{length-take-le}
 use borrow.Author.Needs.{needs}
-use Rattle.rules.specs.Rules.{slots}
 use Rattle.lines.specs.LineLaws.{holds-short}
-use Rattle.clean_sheets.specs.Clean.{heldAnswers, answersText, cleanOf}
-use Rattle.clean_sheets.specs.ClaimsHold.{count-within, values-accepted}
 use Rattle.clean_lines.specs.Pieces.{openingText, spliced}
 use Rattle.clean_lines.specs.PiecesLaws.{spliced-length, line-length, line-spliced}
-use Rattle.writing.specs.SoFar.{whole-length, whole-spliced}
+use Rattle.writing.specs.SoFar.{allAnswers, wholeSheet, whole-length, whole-spliced}
 use Rattle.writing.proofs.sheet_into.Statement.{statement}
 use Rattle.writing.proofs.sheet_into.Tie as tie
 
@@ -23,62 +19,49 @@ opening-line-requires c κs = search needs
 put-line-requires : tie.Need-put-line-requires
 put-line-requires c κs =
     let h = c .before .opening-line .ensures in
-    let s = c .before .before .before .before in
-    (omega (arith, line-length h, holds-short h), omega (arith, line-length h, s .pre .1, whole-length (s .args .s)))
+    let s = c .before .before .before in
+    (omega (arith, line-length h, holds-short h), omega (arith, line-length h, s .pre .1, whole-length (s .args .o) (s .args .values .now)))
 
 -- once the opening has been written
 abbrev start-of : tie.After-put-line → tie.Start
-start-of c = c .before .before .before .before .before
+start-of c = c .before .before .before .before
 
-at-is : (c : tie.After-put-line) → c .put-line .result ≡ 0 + length (openingText (start-of c .args .s .opening))
+at-is : (c : tie.After-put-line) → c .put-line .result ≡ 0 + length (openingText (start-of c .args .o))
 at-is c = c .put-line .ensures .0 ∙ ap (λ (n : ℕ). 0 + n) (line-length (c .before .before .opening-line .ensures))
 
-out-is : (c : tie.After-put-line) → c .put-line .last .1 .0 ≡ spliced (start-of c .args .out .now) 0 (openingText (start-of c .args .s .opening))
+out-is : (c : tie.After-put-line) → c .put-line .last .1 .0 ≡ spliced (start-of c .args .out .now) 0 (openingText (start-of c .args .o))
 out-is c = c .put-line .ensures .1 ∙ line-spliced (c .before .before .opening-line .ensures) (start-of c .args .out .now) 0
 
 out-size : (c : tie.After-put-line) → length (c .put-line .last .1 .0) ≡ length (start-of c .args .out .now)
 out-size c =
     let s = start-of c in
-    ap length (out-is c) ∙ spliced-length (s .args .out .now) 0 (openingText (s .args .s .opening)) (omega (arith, s .pre .1, whole-length (s .args .s)))
-
-cast-n : tie.Need-cast-n
-cast-n c = search needs
-
--- there are as many slots as are counted
-long : (s : tie.Start) → s .args .s .count ≤ length (s .args .s .slots)
-long s =
-    let l : length (s .args .s .slots) ≡ slots = search needs in
-    omega (arith, count-within (s .args .s) (s .pre .0))
-
-array-share-prefix-slots : tie.Need-array-share-prefix-slots
-array-share-prefix-slots c = long (start-of (c .before .before .before .before))
-
-slice-aggregate-answers-into : tie.Need-slice-aggregate-answers-into
-slice-aggregate-answers-into c =
-    let s = start-of (c .before .before .before .before .before) in
-    sym (length-take-le (s .args .s .count) (s .args .s .slots) (long s))
+    ap length (out-is c)
+    ∙ spliced-length (s .args .out .now) 0 (openingText (s .args .o)) (omega (arith, s .pre .1, whole-length (s .args .o) (s .args .values .now)))
 
 answers-into-requires : tie.Need-answers-into-requires
 answers-into-requires c κs =
-    let p = c .before .before .before .before .before .before in
+    let p = c .before .before .before in
     let s = start-of p in
-    (values-accepted (s .args .s) (s .pre .0), omega (arith, at-is p, out-size p, s .pre .1, whole-length (s .args .s)))
+    (s .pre .0, omega (arith, at-is p, out-size p, s .pre .1, whole-length (s .args .o) (s .args .values .now)))
 
 same-length : tie.Need-same-length
 same-length c = search needs
 
 -- the answers behind the opening
-both : (c : tie.After-put-line) → spliced (c .put-line .last .1 .0) (c .put-line .result) (answersText (heldAnswers (start-of c .args .s)))
-    ≡ spliced (start-of c .args .out .now) 0 (cleanOf (start-of c .args .s))
+both : (c : tie.After-put-line)
+    → spliced (c .put-line .last .1 .0) (c .put-line .result) (allAnswers (start-of c .args .o) (start-of c .args .values .now))
+    ≡ spliced (start-of c .args .out .now) 0 (wholeSheet (start-of c .args .o) (start-of c .args .values .now))
 both c =
-    ap₂ (λ (b : List ℕ) (n : ℕ). spliced b n (answersText (heldAnswers (start-of c .args .s)))) (out-is c) (at-is c)
-    ∙ whole-spliced (start-of c .args .s) (start-of c .args .out .now) (start-of c .pre .1)
+    let s = start-of c in
+    ap₂ (λ (b : List ℕ) (n : ℕ). spliced b n (allAnswers (s .args .o) (s .args .values .now))) (out-is c) (at-is c)
+    ∙ whole-spliced (s .args .o) (s .args .values .now) (s .args .out .now) (s .pre .1)
 
 returns : tie.Need-returns
 returns c =
     let a = c .before .before in
-    let p = a .before .before .before .before .before .before .before in
-    (omega (arith, a .answers-into .ensures .0, at-is p, whole-length (start-of p .args .s)), a .answers-into .ensures .1 ∙ both p)
+    let p = a .before .before .before .before in
+    let s = start-of p .args in
+    (omega (arith, a .answers-into .ensures .0, at-is p, whole-length (s .o) (s .values .now)), a .answers-into .ensures .1 ∙ both p)
 
 pub sheet-into-spec : {M : Type 1} → statement M
 sheet-into-spec =
@@ -86,9 +69,6 @@ sheet-into-spec =
     (tie.spec
     opening-line-requires
     put-line-requires
-    cast-n
-    array-share-prefix-slots
-    slice-aggregate-answers-into
     answers-into-requires
     same-length
     returns)

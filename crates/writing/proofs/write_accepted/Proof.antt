@@ -3,6 +3,7 @@
 -- Assumes nothing.
 use Prim.Native.Nat.{ℕ, _≤_}
 use mathlib.Core.Path.{_≡_, refl, sym, ap, ap₂, _∙_}
+use mathlib.Core.List.{List}
 use native.Mathlib.Omega.{arith}
 use lib.ListN.{length, take}
 use lib.Seq.{length-take-le}
@@ -10,19 +11,28 @@ use borrow.Author.Needs.{needs}
 use borrow.Author.Tests.{lt-ltb, le-ltb, lt-leb, le-leb}
 use Rattle.printing.specs.Printed.{placed, placedLength}
 use Rattle.clean_sheets.specs.declared.Written.{Written}
-use Rattle.clean_sheets.specs.Clean.{cleanOf, longestSheet}
-use Rattle.clean_sheets.specs.ClaimsHold.{sheet-within}
+use Rattle.clean_sheets.specs.Clean.{longestSheet}
+use Rattle.clean_sheets.specs.ClaimsHold.{is-short}
 use Rattle.clean_lines.specs.PiecesLaws.{spliced-front}
+use Rattle.writing.specs.SoFar.{wholeSheet}
 use Rattle.writing.proofs.write_accepted.Statement.{statement}
 use Rattle.writing.proofs.write_accepted.Tie as tie
 
+-- the sheet that is wanted, and that it is no longer than the own buffer
+abbrev sheet-of : tie.Start → List ℕ
+sheet-of s = wholeSheet (s .args .o) (take (s .args .count) (s .args .slots .now))
+
+short : (s : tie.Start) → length (sheet-of s) ≤ longestSheet
+short s = is-short (s .args .o) (take (s .args .count) (s .args .slots .now)) (s .pre .1)
+
 slice-aggregate-sheet-into : tie.Need-slice-aggregate-sheet-into
-slice-aggregate-sheet-into c = search needs
+slice-aggregate-sheet-into c = let s = c .before .before in sym (length-take-le (s .args .count) (s .args .slots .now) (s .pre .0))
+
+slice-aggregate-sheet-into-2 : tie.Need-slice-aggregate-sheet-into-2
+slice-aggregate-sheet-into-2 c = search needs
 
 sheet-into-requires : tie.Need-sheet-into-requires
-sheet-into-requires c κs =
-    let s = c .before .before in
-    (s .pre, omega (arith, sheet-within (s .args .search) (s .pre)))
+sheet-into-requires c κs = let s = c .before .before .before in (s .pre .1, omega (arith, short s))
 
 returns : tie.Need-returns
 unfolding placed
@@ -32,19 +42,18 @@ returns c =
 
 -- where the buffer is long enough
 abbrev start-of : tie.Else1 → tie.Start
-start-of c = c .before .before .before .before .before
+start-of c = c .before .before .before .before .before .before
 
-inside : (c : tie.Else1) → c .before .before .sheet-into .result ≤ length (c .before .before .sheet-into .last .1 .0)
+inside : (c : tie.Else1) → c .before .before .sheet-into .result ≤ length (c .before .before .sheet-into .last .1 .1 .0)
 inside c =
     let m = c .before .before .sheet-into in
-    omega (arith, m .ensures .0, m .kept .1 .0, sheet-within (start-of c .args .search) (start-of c .pre))
+    omega (arith, m .ensures .0, m .kept .1 .1 .0, short (start-of c))
 
 -- what was made is the sheet
-made : (c : tie.Else1)
-    → take (c .before .before .sheet-into .result) (c .before .before .sheet-into .last .1 .0) ≡ cleanOf (start-of c .args .search)
+made : (c : tie.Else1) → take (c .before .before .sheet-into .result) (c .before .before .sheet-into .last .1 .1 .0) ≡ sheet-of (start-of c)
 made c =
     let m = c .before .before .sheet-into .ensures in
-    ap₂ take (m .0) (m .1) ∙ spliced-front _ (cleanOf (start-of c .args .search))
+    ap₂ take (m .0) (m .1) ∙ spliced-front _ (sheet-of (start-of c))
 
 array-share-prefix-sheet : tie.Need-array-share-prefix-sheet
 array-share-prefix-sheet c = inside c
@@ -59,18 +68,15 @@ place-text-requires c κs = search needs
 abbrev else-of : tie.After-place-text → tie.Else1
 else-of c = c .before .before .before
 
-fits : (c : tie.After-place-text) → length (cleanOf (start-of (else-of c) .args .search)) ≤ length (start-of (else-of c) .args .out .now)
+fits : (c : tie.After-place-text) → length (sheet-of (start-of (else-of c))) ≤ length (start-of (else-of c) .args .out .now)
 fits c = omega (arith, else-of c .before .before .sheet-into .ensures .0, else-of c .if1 .left)
 
-whole : (c : tie.After-place-text) → c .place-text .result ≡ length (cleanOf (start-of (else-of c) .args .search))
+whole : (c : tie.After-place-text) → c .place-text .result ≡ length (sheet-of (start-of (else-of c)))
 unfolding placedLength
 whole c = (rw (made (else-of c)) at (c .place-text .ensures .0)) ∙ simp (le-leb _ _ (fits c))
 
-cast-t14 : tie.Need-cast-t14
-cast-t14 c =
-    let p = c .before .before in
-    let s = start-of (else-of p) in
-    record { fits = omega (arith, whole p, sheet-within (s .args .search) (s .pre)) }
+cast-t19 : tie.Need-cast-t19
+cast-t19 c = let p = c .before .before in record { fits = omega (arith, whole p, short (start-of (else-of p))) }
 
 same-length : tie.Need-same-length
 same-length c = search needs
@@ -85,11 +91,12 @@ write-accepted-spec =
     tie.close
     (tie.spec
     slice-aggregate-sheet-into
+    slice-aggregate-sheet-into-2
     sheet-into-requires
     returns
     array-share-prefix-sheet
     slice-aggregate-place-text
     place-text-requires
-    cast-t14
+    cast-t19
     same-length
     returns-2)

@@ -1,4 +1,4 @@
--- `writing::write_sheet` meets its contract: by the search's report.
+-- `writing::write_sheet` meets its contract: by the search's report. One that is not refused has values that are accepted.
 -- Assumes nothing.
 use Prim.Native.Nat.{ℕ}
 use mathlib.Core.Path.{_≡_, refl, sym, ap, _∙_}
@@ -15,6 +15,8 @@ use Rattle.rules.proofs.Report.{the-type}
 use Rattle.rules.specs.Search.{isRefusal}
 use Rattle.held.specs.Held.{heldReport}
 use Rattle.clean_sheets.specs.Clean.{cleanOf, fittedIn, writtenAfter, writtenOf, bufferOf}
+use Rattle.clean_sheets.specs.Claims.{AcceptedSearch}
+use Rattle.clean_sheets.specs.ClaimsHold.{count-within, values-accepted}
 use Rattle.writing.proofs.write_sheet.Statement.{statement}
 use Rattle.writing.proofs.write_sheet.Tie as tie
 
@@ -43,23 +45,30 @@ returns c =
     let told = c .before .before .before .report .ensures in
     rw (sym told ∙ c .before .report2 .given .1) (refl, refl)
 
+-- the report is no refusal
+accepted : (m : tie.At-match-keys2) → AcceptedSearch (m .before .before .before .args .t1)
+accepted m =
+    let asked = m .before .report in
+    record { accepted = ap isRefusal (sym (asked .ensures)) ∙ not-refusal (asked .result) (m .match .keys2); full = search needs }
+
 write-accepted-requires : tie.Need-write-accepted-requires
 write-accepted-requires c κs =
-    let asked = c .before .before .report in
-    record { accepted = ap isRefusal (sym (asked .ensures)) ∙ not-refusal (asked .result) (c .before .match .keys2); full = search needs }
+    let m = c .before .before .before .before .before in
+    let s = m .before .before .before .args .t1 in
+    let a = accepted m in
+    (omega (arith, count-within s a, a .full), values-accepted s a)
 
 same-length : tie.Need-same-length
 same-length c = search needs
 
 returns-2 : tie.Need-returns-2
-unfolding writtenOf bufferOf
+unfolding writtenOf bufferOf cleanOf
 returns-2 c =
     let w = c .before .before in
-    let m = w .before .before in
-    let asked = m .before .report in
+    let m = w .before .before .before .before .before .before in
     let s = m .before .before .before .args in
-    let told : isRefusal (heldReport (s .search)) ≡ false = ap isRefusal (sym (asked .ensures)) ∙ not-refusal (asked .result) (m .match .keys2) in
-    (w .write-accepted .ensures .0 ∙ fitted (heldReport (s .search)) (s .out .now) (cleanOf (s .search)) told, w .write-accepted .ensures .1 ∙ simp told)
+    let told = accepted m .accepted in
+    (w .write-accepted .ensures .0 ∙ fitted (heldReport (s .t1)) (s .out .now) (cleanOf (s .t1)) told, w .write-accepted .ensures .1 ∙ simp told)
 
 pub write-sheet-spec : {M : Type 1} → statement M
 write-sheet-spec =
