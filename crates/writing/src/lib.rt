@@ -6,7 +6,7 @@ ghost use lib.ListN.{length, take};
 ghost use Rattle.rules.specs.Search.{isRefused, beginOf, progressOf};
 ghost use Rattle.printing.specs.Printed.{placed};
 ghost use Rattle.clean_sheets.specs.Clean.{withPoints, answersText, sheetText, fittedIn, writtenOf, bufferOf};
-ghost use Rattle.clean_lines.specs.Pieces.{spliced};
+ghost use Rattle.sheet_text.specs.Pieces.{Puts};
 use clean_sheets::Written;
 use held::Search;
 use rules::Opening;
@@ -17,8 +17,7 @@ use rules::Report;
 fn answers_into(o: Opening, values: &[i32], out: &mut [u8], at: usize) -> usize
     requires { ⌜ (isRefused (progressOf o (now values)) ≡ false)
         × (at + length (answersText (withPoints o (beginOf o) (now values))) ≤ length (now out)) ⌝ }
-    ensures { λ r. ⌜ r ≡ at + length (answersText (withPoints o (beginOf o) (now (values .entry)))) ⌝ }
-    ensures { λ _. ⌜ now (out .exit) ≡ spliced (now (out .entry)) at (answersText (withPoints o (beginOf o) (now (values .entry)))) ⌝ }
+    ensures { λ r. ⌜ Puts (now (out .entry)) at (answersText (withPoints o (beginOf o) (now (values .entry)))) (now (out .exit)) r ⌝ }
 {
     let mut p = Progress::Begun;
     let mut end = at;
@@ -26,7 +25,7 @@ fn answers_into(o: Opening, values: &[i32], out: &mut [u8], at: usize) -> usize
     while i < values.len() {
         let v = values[i];
         let answer = retracing::retrace(o, p, v);
-        end = clean_lines::put_line(clean_lines::answer_line(answer.point, v), out, end);
+        end = sheet_text::put_answer(out, end, answer.point, v);
         p = answer.after;
         i += 1;
     }
@@ -37,10 +36,9 @@ fn answers_into(o: Opening, values: &[i32], out: &mut [u8], at: usize) -> usize
 fn sheet_into(o: Opening, values: &[i32], out: &mut [u8]) -> usize
     requires { ⌜ (isRefused (progressOf o (now values)) ≡ false)
         × (length (sheetText o (withPoints o (beginOf o) (now values))) ≤ length (now out)) ⌝ }
-    ensures { λ r. ⌜ r ≡ length (sheetText o (withPoints o (beginOf o) (now (values .entry)))) ⌝ }
-    ensures { λ _. ⌜ now (out .exit) ≡ spliced (now (out .entry)) 0 (sheetText o (withPoints o (beginOf o) (now (values .entry)))) ⌝ }
+    ensures { λ r. ⌜ Puts (now (out .entry)) 0 (sheetText o (withPoints o (beginOf o) (now (values .entry)))) (now (out .exit)) r ⌝ }
 {
-    let at = clean_lines::put_line(clean_lines::opening_line(o), out, 0);
+    let at = sheet_text::put_opening(out, 0, o);
     answers_into(o, values, out, at)
 }
 

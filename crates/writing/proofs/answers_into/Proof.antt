@@ -1,24 +1,22 @@
 -- `writing::answers_into` meets its contract. The loop's invariant: what is left to write behind `end` comes to all of it written behind
 -- `at`. The measure is how many values are left.
 -- Assumes nothing.
-use Prim.Native.Nat.{ℕ, _+_, _-_, _≤_}
-use mathlib.Core.Path.{_≡_, refl, sym, ap, _∙_}
+use Prim.Native.Nat.{_+_, _-_}
+use mathlib.Core.Path.{_≡_, refl, sym, ap, ap₂, subst, _∙_}
 use native.Mathlib.Omega.{arith}
 use lib.IntN.{ℤ, pos}
 use lib.ListN.{length, getD}
 use mir.Syntax.{w32}
-use mir.Val.{SFits}
+use mir.Val.{SFits, toZ, ofZ}
 use borrow.Author.Needs.{needs}
 use Rattle.integers.specs.Bounds.{read}
-use Rattle.rules.specs.declared.Opening.{Opening}
-use Rattle.rules.specs.Search.{enteredAt}
-use Rattle.lines.specs.Line.{Holds}
-use Rattle.lines.specs.LineLaws.{holds-short}
+use Rattle.rules.specs.declared.Progress.{Progress}
 use Rattle.clean_sheets.specs.Clean.{calledAt}
-use Rattle.clean_lines.specs.Pieces.{answerText}
-use Rattle.clean_lines.specs.PiecesLaws.{line-length, line-spliced}
 use Rattle.retracing.specs.declared.Retraced.{Retraced}
-use Rattle.writing.specs.SoFar.{SoFar, in-words, none-yet, next-taken, next-fits, one-more, all-ends, all-written}
+use Rattle.retracing.specs.Retrace.{retraceOf}
+use Rattle.sheet_text.specs.Pieces.{answerText}
+use Rattle.sheet_text.specs.PiecesLaws.{same-size, in-words}
+use Rattle.writing.specs.SoFar.{SoFar, none-yet, next-taken, next-fits, one-more, all-written}
 use Rattle.writing.proofs.answers_into.Statement.{statement}
 use Rattle.writing.proofs.answers_into.Tie as tie
 
@@ -29,7 +27,9 @@ abbrev μ-loop : tie.MeasureT-loop
 μ-loop o values out₀ at p₀ end₀ i₀ out p end i = length values - i
 
 loop-holds : tie.Need-loop-holds Inv-loop μ-loop
-loop-holds c = let s = c .before in none-yet (s .args .o) (s .args .values .now) (s .args .out .now) (s .args .at) (s .pre .0)
+loop-holds c =
+    let s = c .before in
+    none-yet (s .args .o) (s .args .values .now) (s .args .out .now) (s .args .at) (s .pre .0) (omega (arith, s .pre .1))
 
 mul-v : tie.Need-mul-v Inv-loop μ-loop
 mul-v c = search needs
@@ -40,27 +40,32 @@ shared-slice-copy-out-v c = search needs
 retrace-requires : tie.Need-retrace-requires Inv-loop μ-loop
 retrace-requires c κs =
     let l = c .before .before .loop in
-    (l .inv .sound, next-taken (c .before .before .before .before .pre .1) (l .inv) (c .before .loop-test .taken) .passed .going)
+    (l .inv .sound, next-taken (l .inv) (c .before .loop-test .taken) .passed .going)
 
-answer-line-requires : tie.Need-answer-line-requires Inv-loop μ-loop
-answer-line-requires c κs = search needs
+-- the value that is taken, and what comes of it
+abbrev value-of : tie.After-retrace Inv-loop μ-loop → ℤ
+value-of c = getD (c .before .before .before .before .before .args .values .now) (c .before .before .before .loop .i) (pos 0)
 
--- the line holds the next record
-held : (c : tie.After-answer-line Inv-loop μ-loop)
-    → Holds (c .answer-line .result)
-    (answerText (calledAt (c .before .before .before .before .before .before .args .o) (c .before .before .before .before .loop .p))
-    (getD (c .before .before .before .before .before .before .args .values .now) (c .before .before .before .before .loop .i) (pos 0)))
-held c =
-    let l = c .before .before .before .before .loop in
-    let f : SFits w32 (getD (c .before .before .before .before .before .before .args .values .now) (l .i) (pos 0)) = search needs in
-    rw (read f, c .before .retrace .ensures) at (c .answer-line .ensures)
+value-back : (c : tie.After-retrace Inv-loop μ-loop) → toZ w32 (ofZ w32 (value-of c)) ≡ value-of c
+value-back c = let f : SFits w32 (value-of c) = search needs in read f
 
-put-line-requires : tie.Need-put-line-requires Inv-loop μ-loop
-put-line-requires c κs =
-    let a = c .before in
-    let t = a .before .before .before in
-    let fits = next-fits (t .before .before .before .pre .1) (t .before .loop .inv) (t .loop-test .taken) in
-    (omega (arith, line-length (held a), holds-short (held a)), omega (arith, line-length (held a), fits))
+retraced : (c : tie.After-retrace Inv-loop μ-loop)
+    → c .retrace .result ≡ retraceOf (c .before .before .before .before .before .args .o) (c .before .before .before .loop .p) (value-of c)
+retraced c =
+    c .retrace .ensures
+    ∙ ap (retraceOf (c .before .before .before .before .before .args .o) (c .before .before .before .loop .p)) (value-back c)
+
+-- the next record, in the code's words
+record-is : (c : tie.After-retrace Inv-loop μ-loop)
+    → answerText (c .retrace .result .point) (toZ w32 (ofZ w32 (value-of c)))
+    ≡ answerText (calledAt (c .before .before .before .before .before .args .o) (c .before .before .before .loop .p)) (value-of c)
+record-is c = ap₂ answerText (ap (λ (r : Retraced). r .point) (retraced c)) (value-back c)
+
+put-answer-requires : tie.Need-put-answer-requires Inv-loop μ-loop
+put-answer-requires c κs =
+    let r = c .before in
+    let t = r .before .before in
+    rw (record-is r) (next-fits (t .before .loop .inv) (t .loop-test .taken) (t .before .before .before .pre .1))
 
 add-i : tie.Need-add-i Inv-loop μ-loop
 add-i c = omega arith
@@ -70,24 +75,20 @@ loop-less c = omega arith
 
 loop-again : tie.Need-loop-again Inv-loop μ-loop
 loop-again c =
-    let put = c .before .before in
-    let a = put .before .before in
-    let t = a .before .before .before in
-    let l = t .before .loop in
+    let a = c .before .before in
+    let r = a .before .before in
+    let t = r .before .before in
     let s = t .before .before .before in
-    let f : SFits w32 (getD (s .args .values .now) (l .i) (pos 0)) = search needs in
-    in-words (one-more (s .pre .1) (l .inv) (t .loop-test .taken))
-    (put .put-line .ensures .1 ∙ line-spliced (held a) (l .out) (l .end))
-    (ap (λ (r : Retraced). r .after) (rw (read f) at (a .before .retrace .ensures)))
-    (put .put-line .ensures .0 ∙ ap (λ (n : ℕ). l .end + n) (line-length (held a)))
+    let l = t .before .loop in
+    subst (λ (q : Progress). SoFar (s .args .o) (s .args .values .now) (s .args .out .now) (s .args .at) (a .put-answer .last .0) q (a .put-answer .result) (l .i + 1))
+    (sym (ap (λ (x : Retraced). x .after) (retraced r)))
+    (one-more (l .inv) (t .loop-test .taken) (in-words (a .put-answer .ensures) (record-is r) refl refl))
 
 same-length : tie.Need-same-length Inv-loop μ-loop
-same-length c = c .before .loop .inv .size
+same-length c = same-size (c .before .loop .inv .puts)
 
 returns : tie.Need-returns Inv-loop μ-loop
-returns c =
-    let l = c .before .loop in
-    (all-ends (l .inv) (c .loop-test .left), all-written (l .inv) (c .loop-test .left))
+returns c = all-written (c .before .loop .inv) (c .loop-test .left)
 
 pub answers-into-spec : {M : Type 1} → statement M
 answers-into-spec =
@@ -99,8 +100,7 @@ answers-into-spec =
     mul-v
     shared-slice-copy-out-v
     retrace-requires
-    answer-line-requires
-    put-line-requires
+    put-answer-requires
     add-i
     loop-less
     loop-again

@@ -13,7 +13,7 @@ use Rattle.printing.specs.Printed.{placed, placedLength}
 use Rattle.clean_sheets.specs.declared.Written.{Written}
 use Rattle.clean_sheets.specs.Clean.{longestSheet}
 use Rattle.clean_sheets.specs.ClaimsHold.{is-short}
-use Rattle.clean_lines.specs.PiecesLaws.{spliced-front}
+use Rattle.sheet_text.specs.PiecesLaws.{same-size, front-length, front-text}
 use Rattle.writing.specs.SoFar.{wholeSheet}
 use Rattle.writing.proofs.write_accepted.Statement.{statement}
 use Rattle.writing.proofs.write_accepted.Tie as tie
@@ -37,7 +37,7 @@ sheet-into-requires c κs = let s = c .before .before .before in (s .pre .1, ome
 returns : tie.Need-returns
 unfolding placed
 returns c =
-    let n = c .before .before .sheet-into .ensures .0 in
+    let n = front-length (c .before .before .sheet-into .ensures) in
     simp (lt-ltb _ _ (rw n at (c .if1 .taken)), lt-leb _ _ (rw n at (c .if1 .taken))) (refl, refl)
 
 -- where the buffer is long enough
@@ -46,14 +46,12 @@ start-of c = c .before .before .before .before .before .before
 
 inside : (c : tie.Else1) → c .before .before .sheet-into .result ≤ length (c .before .before .sheet-into .last .1 .1 .0)
 inside c =
-    let m = c .before .before .sheet-into in
-    omega (arith, m .ensures .0, m .kept .1 .1 .0, short (start-of c))
+    let m = c .before .before .sheet-into .ensures in
+    omega (arith, front-length m, m .room, same-size m)
 
 -- what was made is the sheet
 made : (c : tie.Else1) → take (c .before .before .sheet-into .result) (c .before .before .sheet-into .last .1 .1 .0) ≡ sheet-of (start-of c)
-made c =
-    let m = c .before .before .sheet-into .ensures in
-    ap₂ take (m .0) (m .1) ∙ spliced-front _ (sheet-of (start-of c))
+made c = front-text (c .before .before .sheet-into .ensures)
 
 array-share-prefix-sheet : tie.Need-array-share-prefix-sheet
 array-share-prefix-sheet c = inside c
@@ -69,7 +67,7 @@ abbrev else-of : tie.After-place-text → tie.Else1
 else-of c = c .before .before .before
 
 fits : (c : tie.After-place-text) → length (sheet-of (start-of (else-of c))) ≤ length (start-of (else-of c) .args .out .now)
-fits c = omega (arith, else-of c .before .before .sheet-into .ensures .0, else-of c .if1 .left)
+fits c = omega (arith, front-length (else-of c .before .before .sheet-into .ensures), else-of c .if1 .left)
 
 whole : (c : tie.After-place-text) → c .place-text .result ≡ length (sheet-of (start-of (else-of c)))
 unfolding placedLength

@@ -1,7 +1,7 @@
--- The pieces that a clean sheet is written in: its fields and records, and a text that stands in the middle of a buffer. A text is the
--- list of its bytes.
+-- The pieces that a clean sheet is written in: its fields and records, and a text put into a buffer. A text is the list of its bytes.
 -- Assumes nothing.
-use Prim.Native.Nat.{ℕ, _+_}
+use Prim.Native.Nat.{ℕ, _+_, _≤_}
+use mathlib.Core.Path.{_≡_}
 use mathlib.Core.List.{List, [], _∷_, _++_}
 use lib.IntN.{ℤ, pos}
 use lib.ListN.{length, take, drop}
@@ -15,21 +15,23 @@ use Rattle.clean_sheets.specs.Clean.{numberText}
 abbrev pub fieldText : ℤ → ℕ → List ℕ
 fieldText z end = numberText z ++ end ∷ []
 
--- the most bytes that a field of a 32-bit number has: a minus, ten digits and the byte at its end
-abbrev pub widestField : ℕ
-widestField = 12
-
 -- method,x0,x1,τ and CR LF
 unfoldable pub openingText : Opening → List ℕ
 openingText o =
-    fieldText (o .method) comma ++ (fieldText (o .first) comma ++ (fieldText (o .second) comma ++ (fieldText (o .tolerance) cr ++ (lf ∷ []))))
+    fieldText (o .method) comma ++ fieldText (o .first) comma ++ fieldText (o .second) comma ++ fieldText (o .tolerance) cr ++ lf ∷ []
 
 -- point,value and CR LF
 unfoldable pub answerText : ℕ → ℤ → List ℕ
-answerText x v = fieldText (pos x) comma ++ (fieldText v cr ++ (lf ∷ []))
+answerText x v = fieldText (pos x) comma ++ fieldText v cr ++ lf ∷ []
 
--- ---- a text in the middle of a buffer
+-- ---- a text put into a buffer
 
 -- the text from the place `at` on, and the buffer's own bytes before it and behind it
 abbrev pub spliced : List ℕ → ℕ → List ℕ → List ℕ
 spliced buffer at text = take at buffer ++ text ++ drop (at + length text) buffer
+
+-- the buffer was `before` and is `after`: the text, for which there was room, stands in it from `at` to `end`
+pub record Puts (before : List ℕ) (at : ℕ) (text after : List ℕ) (end : ℕ) : Type 0 where
+  pub room : at + length text ≤ length before
+  pub bytes : after ≡ spliced before at text
+  pub ends : end ≡ at + length text

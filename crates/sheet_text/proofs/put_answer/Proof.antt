@@ -1,0 +1,118 @@
+-- `sheet_text::put_answer` meets its contract: the point and a comma, the value and CR, and LF, for which there is room.
+-- Assumes nothing.
+use Prim.Native.Nat.{ℕ, _+_, _<_}
+use mathlib.Core.Path.{_≡_, refl}
+use mathlib.Core.List.{[], _∷_, _++_}
+use native.Mathlib.Omega.{arith}
+use lib.ListN.{length, set, length-append}
+use borrow.Author.Needs.{needs}
+use Rattle.integers.specs.Bounds.{read}
+use Rattle.forms.specs.Bytes.{cr, lf, comma}
+use Rattle.lines.specs.Decimal.{decimalOf}
+use Rattle.clean_sheets.specs.Clean.{numberText}
+use Rattle.sheet_text.specs.Pieces.{fieldText, answerText, Puts}
+use Rattle.sheet_text.specs.PiecesLaws.{answer-length, same-size, puts-more, puts-byte, in-words}
+use Rattle.sheet_text.proofs.put_answer.Statement.{statement}
+use Rattle.sheet_text.proofs.put_answer.Tie as tie
+
+put-digits-requires : tie.Need-put-digits-requires
+put-digits-requires c κs = let s = c .before .before in omega (arith, s .pre, answer-length (s .args .point) (s .args .value))
+
+-- ---- the point and its comma
+
+abbrev start-of : tie.After-put-digits → tie.Start
+start-of c = c .before .before .before
+
+room : (c : tie.After-put-digits) → c .put-digits .result < length (c .put-digits .last .0)
+room c =
+    let s = start-of c in
+    omega (arith, s .pre, answer-length (s .args .point) (s .args .value), c .put-digits .ensures .ends, same-size (c .put-digits .ensures))
+
+point : (c : tie.After-put-digits)
+    → Puts (start-of c .args .out .now) (start-of c .args .at) (decimalOf (start-of c .args .point) ++ comma ∷ [])
+    (set (c .put-digits .last .0) (c .put-digits .result) comma) (c .put-digits .result + 1)
+point c = puts-more (c .put-digits .ensures) (puts-byte (c .put-digits .last .0) (c .put-digits .result) comma (room c))
+
+slice-write-out : tie.Need-slice-write-out
+slice-write-out c = room (c .before .before)
+
+add-put-field : tie.Need-add-put-field
+add-put-field c = search needs
+
+put-field-requires : tie.Need-put-field-requires
+put-field-requires c κs =
+    let d = c .before .before .before in
+    let s = start-of d in
+    rw (read (s .fits .value))
+    (omega (
+      arith,
+      s .pre,
+      answer-length (s .args .point) (s .args .value),
+      d .put-digits .ensures .ends,
+      same-size (point d),
+    ))
+
+-- ---- the value, and CR LF
+
+abbrev digits-of : tie.After-put-field → tie.After-put-digits
+digits-of c = c .before .before .before .before
+
+both : (c : tie.After-put-field)
+    → Puts (start-of (digits-of c) .args .out .now) (start-of (digits-of c) .args .at)
+    (decimalOf (start-of (digits-of c) .args .point) ++ comma ∷ [] ++ fieldText (start-of (digits-of c) .args .value) cr)
+    (c .put-field .last .0) (c .put-field .result)
+both c =
+    let s = start-of (digits-of c) in
+    puts-more (point (digits-of c)) (rw (read (s .fits .value)) at (c .put-field .ensures))
+
+room-2 : (c : tie.After-put-field) → c .put-field .result < length (c .put-field .last .0)
+room-2 c =
+    let s = start-of (digits-of c) in
+    let x = decimalOf (s .args .point) in
+    omega (
+      arith,
+      s .pre,
+      answer-length (s .args .point) (s .args .value),
+      both c .ends,
+      same-size (both c),
+      length-append (x ++ comma ∷ []) (fieldText (s .args .value) cr),
+      length-append x (comma ∷ []),
+    )
+
+slice-write-out-2 : tie.Need-slice-write-out-2
+slice-write-out-2 c = room-2 (c .before .before)
+
+-- a buffer's bytes can be counted
+big : (c : tie.After-put-digits) → length (start-of c .args .out .now) < 18446744073709551616
+big c = search needs
+
+add-result : tie.Need-add-result
+add-result c =
+    let f = c .before .before in
+    record { fits = omega (arith, room-2 f, same-size (both f), big (digits-of f)) }
+
+whole : (c : tie.After-put-field)
+    → Puts (start-of (digits-of c) .args .out .now) (start-of (digits-of c) .args .at)
+    (answerText (start-of (digits-of c) .args .point) (start-of (digits-of c) .args .value))
+    (set (c .put-field .last .0) (c .put-field .result) lf) (c .put-field .result + 1)
+unfolding answerText numberText
+whole c = puts-more (both c) (puts-byte (c .put-field .last .0) (c .put-field .result) lf (room-2 c))
+
+same-length : tie.Need-same-length
+same-length c = same-size (whole (c .before .before))
+
+returns : tie.Need-returns
+returns c = whole (c .before .before)
+
+pub put-answer-spec : {M : Type 1} → statement M
+put-answer-spec =
+    tie.close
+    (tie.spec
+    put-digits-requires
+    slice-write-out
+    add-put-field
+    put-field-requires
+    slice-write-out-2
+    add-result
+    same-length
+    returns)

@@ -1,0 +1,149 @@
+-- `sheet_text::put_opening` meets its contract: four fields, each behind the one before, and LF, for which there is room.
+-- Assumes nothing.
+use Prim.Native.Nat.{ℕ, _+_, _≤_, _<_}
+use mathlib.Core.Path.{_≡_}
+use mathlib.Core.List.{List, [], _∷_, _++_}
+use native.Mathlib.Omega.{arith}
+use lib.ListN.{length, set, length-append}
+use mir.Syntax.{w32}
+use mir.Val.{SFits}
+use borrow.Author.Needs.{needs}
+use Rattle.integers.specs.Bounds.{read}
+use Rattle.rules.specs.declared.Opening.{Opening}
+use Rattle.forms.specs.Bytes.{cr, lf, comma}
+use Rattle.sheet_text.specs.Pieces.{fieldText, openingText, Puts}
+use Rattle.sheet_text.specs.PiecesLaws.{opening-length, same-size, puts-more, puts-byte}
+use Rattle.sheet_text.proofs.put_opening.Statement.{statement}
+use Rattle.sheet_text.proofs.put_opening.Tie as tie
+
+-- the record up to each field
+abbrev one : Opening → List ℕ
+one o = fieldText (o .method) comma
+
+abbrev two : Opening → List ℕ
+two o = one o ++ fieldText (o .first) comma
+
+abbrev three : Opening → List ℕ
+three o = two o ++ fieldText (o .second) comma
+
+abbrev four : Opening → List ℕ
+four o = three o ++ fieldText (o .tolerance) cr
+
+-- ---- method
+
+fits-method : (c : tie.After-struct-told) → SFits w32 (c .before .before .before .args .o .method)
+fits-method c = search needs
+
+put-field-requires : tie.Need-put-field-requires
+put-field-requires c κs =
+    let s = c .before .before .before in
+    rw (read (fits-method c)) (omega (arith, s .pre, opening-length (s .args .o)))
+
+abbrev start-of : tie.After-put-field → tie.Start
+start-of c = c .before .before .before .before
+
+first : (c : tie.After-put-field) → Puts (start-of c .args .out .now) (start-of c .args .at) (one (start-of c .args .o)) (c .put-field .last .0) (c .put-field .result)
+first c = rw (read (fits-method (c .before))) at (c .put-field .ensures)
+
+-- ---- x0
+
+fits-first : (c : tie.After-struct-told2) → SFits w32 (start-of (c .before .before .before .before) .args .o .first)
+fits-first c = search needs
+
+put-field-requires-2 : tie.Need-put-field-requires-2
+put-field-requires-2 c κs =
+    let f = c .before .before .before .before in
+    let s = start-of f in
+    rw (read (fits-first c)) (omega (arith, s .pre, opening-length (s .args .o), first f .ends, same-size (first f)))
+
+abbrev start-of-2 : tie.After-put-field2 → tie.Start
+start-of-2 c = start-of (c .before .before .before .before .before)
+
+second : (c : tie.After-put-field2)
+    → Puts (start-of-2 c .args .out .now) (start-of-2 c .args .at) (two (start-of-2 c .args .o)) (c .put-field2 .last .0) (c .put-field2 .result)
+second c = puts-more (first (c .before .before .before .before .before)) (rw (read (fits-first (c .before))) at (c .put-field2 .ensures))
+
+two-length : (o : Opening) → length (two o) ≡ length (one o) + length (fieldText (o .first) comma)
+two-length o = length-append (one o) (fieldText (o .first) comma)
+
+-- ---- x1
+
+fits-second : (c : tie.After-struct-told3) → SFits w32 (start-of-2 (c .before .before .before .before) .args .o .second)
+fits-second c = search needs
+
+put-field-requires-3 : tie.Need-put-field-requires-3
+put-field-requires-3 c κs =
+    let f = c .before .before .before .before in
+    let s = start-of-2 f in
+    rw (read (fits-second c)) (omega (arith, s .pre, opening-length (s .args .o), two-length (s .args .o), second f .ends, same-size (second f)))
+
+abbrev start-of-3 : tie.After-put-field3 → tie.Start
+start-of-3 c = start-of-2 (c .before .before .before .before .before)
+
+third : (c : tie.After-put-field3)
+    → Puts (start-of-3 c .args .out .now) (start-of-3 c .args .at) (three (start-of-3 c .args .o)) (c .put-field3 .last .0) (c .put-field3 .result)
+third c = puts-more (second (c .before .before .before .before .before)) (rw (read (fits-second (c .before))) at (c .put-field3 .ensures))
+
+three-length : (o : Opening) → length (three o) ≡ length (two o) + length (fieldText (o .second) comma)
+three-length o = length-append (two o) (fieldText (o .second) comma)
+
+-- ---- τ
+
+fits-tolerance : (c : tie.After-struct-told4) → SFits w32 (start-of-3 (c .before .before .before .before) .args .o .tolerance)
+fits-tolerance c = search needs
+
+put-field-requires-4 : tie.Need-put-field-requires-4
+put-field-requires-4 c κs =
+    let f = c .before .before .before .before in
+    let s = start-of-3 f in
+    let o = s .args .o in
+    rw (read (fits-tolerance c)) (omega (arith, s .pre, opening-length o, two-length o, three-length o, third f .ends, same-size (third f)))
+
+abbrev start-of-4 : tie.After-put-field4 → tie.Start
+start-of-4 c = start-of-3 (c .before .before .before .before .before)
+
+fourth : (c : tie.After-put-field4)
+    → Puts (start-of-4 c .args .out .now) (start-of-4 c .args .at) (four (start-of-4 c .args .o)) (c .put-field4 .last .0) (c .put-field4 .result)
+fourth c = puts-more (third (c .before .before .before .before .before)) (rw (read (fits-tolerance (c .before))) at (c .put-field4 .ensures))
+
+four-length : (o : Opening) → length (four o) ≡ length (three o) + length (fieldText (o .tolerance) cr)
+four-length o = length-append (three o) (fieldText (o .tolerance) cr)
+
+-- ---- LF
+
+room : (c : tie.After-put-field4) → c .put-field4 .result < length (c .put-field4 .last .0)
+room c =
+    let s = start-of-4 c in
+    let o = s .args .o in
+    omega (arith, s .pre, opening-length o, two-length o, three-length o, four-length o, fourth c .ends, same-size (fourth c))
+
+slice-write-out : tie.Need-slice-write-out
+slice-write-out c = room (c .before .before)
+
+add-result : tie.Need-add-result
+add-result c = search needs
+
+whole : (c : tie.After-put-field4)
+    → Puts (start-of-4 c .args .out .now) (start-of-4 c .args .at) (openingText (start-of-4 c .args .o))
+    (set (c .put-field4 .last .0) (c .put-field4 .result) lf) (c .put-field4 .result + 1)
+unfolding openingText
+whole c = puts-more (fourth c) (puts-byte (c .put-field4 .last .0) (c .put-field4 .result) lf (room c))
+
+same-length : tie.Need-same-length
+same-length c = same-size (whole (c .before .before))
+
+returns : tie.Need-returns
+returns c = whole (c .before .before)
+
+pub put-opening-spec : {M : Type 1} → statement M
+put-opening-spec =
+    tie.close
+    (tie.spec
+    put-field-requires
+    put-field-requires-2
+    put-field-requires-3
+    put-field-requires-4
+    slice-write-out
+    add-result
+    same-length
+    returns)
