@@ -54,12 +54,12 @@ equal x n e = go (eqZ x (pos n)) refl e
 
 module _ (o : Opening) where
   -- the first of values that are accepted is taken
-  pub first-of : (p : Progress) (v : ℤ) (vs : List ℤ) → isRefused (foldl (takeOf o) p (v ∷ vs)) ≡ false → Taken o p false v
+  first-of : (p : Progress) (v : ℤ) (vs : List ℤ) → isRefused (foldl (takeOf o) p (v ∷ vs)) ≡ false → Taken o p false v
   unfolding takeOf
   first-of p v vs h = taken-is o p false v (not-before (takeOf o p v) _ (refused-stays o (takeOf o p v) vs) h)
 
   -- the others follow it
-  pub rest-of : (p q : Progress) (vs : List ℤ) → p ≡ q → isRefused (foldl (takeOf o) p vs) ≡ false → isRefused (foldl (takeOf o) q vs) ≡ false
+  rest-of : (p q : Progress) (vs : List ℤ) → p ≡ q → isRefused (foldl (takeOf o) p vs) ≡ false → isRefused (foldl (takeOf o) q vs) ≡ false
   rest-of p q vs e h = subst (λ (r : Progress). isRefused (foldl (takeOf o) r vs) ≡ false) e h
 
   -- ---- they are a journal that answers have made
@@ -171,12 +171,16 @@ report-next o n (Progress.First v) c e g = ap (Report.Next (secondOf o)) (sym c)
 report-next o n (Progress.Bracketed k) c e g = simp g (ap (Report.Next (nextOf o k)) c)
 report-next o n (Progress.Refused m i) c e g = never e
 
-pub called-for : (o : Opening) (vs : List ℤ) → isRefused (progressOf o vs) ≡ false → (i : ℕ) → i < length vs
-    → reportOf o (take i vs) ≡ Report.Next (natAbs (getD (points (withPoints o (beginOf o) vs)) i (pos 0))) i
-unfolding reportOf progressOf
-called-for o vs h i l =
-    let p = beginOf o in
-    let g = going-at o p vs i l h in
-    let c0 : CountedAt 0 p = subst (CountedAt 0) (sym (begins o (accepted-of o vs h))) refl in
-    let c : CountedAt i (after o p vs i) = rw (zero-add i) at (counted-at o 0 p vs i l c0) in
-    report-next o i (after o p vs i) c (g .0) (g .1) ∙ ap (λ (x : ℤ). Report.Next (natAbs x) i) (sym (point-at o p vs i l))
+module _ (o : Opening) (vs : List ℤ) (fine : isRefused (progressOf o vs) ≡ false) (i : ℕ) (l : i < length vs) where
+  pub report-before : reportOf o (take i vs) ≡ Report.Next (calledAt o (progressOf o (take i vs))) i
+  unfolding reportOf progressOf
+  report-before =
+      let p = beginOf o in
+      let g = going-at o p vs i l fine in
+      let c0 : CountedAt 0 p = subst (CountedAt 0) (sym (begins o (accepted-of o vs fine))) refl in
+      let c : CountedAt i (after o p vs i) = rw (zero-add i) at (counted-at o 0 p vs i l c0) in
+      report-next o i (after o p vs i) c (g .0) (g .1)
+
+  pub called-for : reportOf o (take i vs) ≡ Report.Next (natAbs (getD (points (withPoints o (beginOf o) vs)) i (pos 0))) i
+  unfolding progressOf
+  called-for = report-before ∙ ap (λ (x : ℤ). Report.Next (natAbs x) i) (sym (point-at o (beginOf o) vs i l))

@@ -1,46 +1,15 @@
 // The sheet written back: the clean sheet of a held search, in a lent buffer.
 ghost use mathlib.Core.Path.{_≡_};
 ghost use mathlib.Core.Bool.{false};
-ghost use Prim.Native.Nat.{_+_, _≤_};
+ghost use Prim.Native.Nat.{_≤_};
 ghost use lib.ListN.{length, take};
 ghost use Rattle.rules.specs.Search.{isRefused, beginOf, progressOf};
 ghost use Rattle.printing.specs.Printed.{placed};
-ghost use Rattle.clean_sheets.specs.Clean.{withPoints, answersText, sheetText, fittedIn, writtenOf, bufferOf};
-ghost use Rattle.sheet_text.specs.Pieces.{Puts};
+ghost use Rattle.clean_sheets.specs.Clean.{withPoints, sheetText, fittedIn, writtenOf, bufferOf};
 use clean_sheets::Written;
 use held::Search;
 use rules::Opening;
-use rules::Progress;
 use rules::Report;
-
-// The records of accepted values, each with the point that was called for, from the place `at` of the buffer on; and the place behind them.
-fn answers_into(o: Opening, values: &[i32], out: &mut [u8], at: usize) -> usize
-    requires { ⌜ (isRefused (progressOf o (now values)) ≡ false)
-        × (at + length (answersText (withPoints o (beginOf o) (now values))) ≤ length (now out)) ⌝ }
-    ensures { λ r. ⌜ Puts (now (out .entry)) at (answersText (withPoints o (beginOf o) (now (values .entry)))) (now (out .exit)) r ⌝ }
-{
-    let mut p = Progress::Begun;
-    let mut end = at;
-    let mut i: usize = 0;
-    while i < values.len() {
-        let v = values[i];
-        let answer = retracing::retrace(o, p, v);
-        end = sheet_text::put_answer(out, end, answer.point, v);
-        p = answer.after;
-        i += 1;
-    }
-    end
-}
-
-// The clean sheet of an opening and accepted values at the beginning of a buffer that is long enough for it, and its length.
-fn sheet_into(o: Opening, values: &[i32], out: &mut [u8]) -> usize
-    requires { ⌜ (isRefused (progressOf o (now values)) ≡ false)
-        × (length (sheetText o (withPoints o (beginOf o) (now values))) ≤ length (now out)) ⌝ }
-    ensures { λ r. ⌜ Puts (now (out .entry)) 0 (sheetText o (withPoints o (beginOf o) (now (values .entry)))) (now (out .exit)) r ⌝ }
-{
-    let at = sheet_text::put_opening(out, 0, o);
-    answers_into(o, values, out, at)
-}
 
 // The clean sheet of an accepted search's parts, where the buffer is long enough.
 fn write_accepted(o: Opening, count: u32, slots: &[i32], out: &mut [u8]) -> Written
@@ -50,7 +19,7 @@ fn write_accepted(o: Opening, count: u32, slots: &[i32], out: &mut [u8]) -> Writ
 {
     let mut sheet = [0u8; clean_sheets::LONGEST_SHEET];
     let n = count as usize;
-    let length = sheet_into(o, &slots[..n], &mut sheet);
+    let length = composing::compose(o, &slots[..n], &mut sheet);
     if out.len() < length {
         return Written::Refused {
             number: rules::BUFFER_TOO_SHORT,

@@ -1,12 +1,13 @@
 -- `sheet_text::put_opening` meets its contract: four fields, each behind the one before, and LF, for which there is room.
 -- Assumes nothing.
 use Prim.Native.Nat.{ℕ, _+_, _≤_, _<_}
-use mathlib.Core.Path.{_≡_}
+use mathlib.Core.Path.{_≡_, sym, subst}
 use mathlib.Core.List.{List, [], _∷_, _++_}
 use native.Mathlib.Omega.{arith}
+use lib.IntN.{ℤ}
 use lib.ListN.{length, set, length-append}
 use mir.Syntax.{w32}
-use mir.Val.{SFits}
+use mir.Val.{SFits, toZ, ofZ}
 use borrow.Author.Needs.{needs}
 use Rattle.integers.specs.Bounds.{read}
 use Rattle.rules.specs.declared.Opening.{Opening}
@@ -29,6 +30,10 @@ three o = two o ++ fieldText (o .second) comma
 abbrev four : Opening → List ℕ
 four o = three o ++ fieldText (o .tolerance) cr
 
+-- room for a field is room for it as the code reads its number
+as-read : (n m end : ℕ) (z : ℤ) → SFits w32 z → n + length (fieldText z end) ≤ m → n + length (fieldText (toZ w32 (ofZ w32 z)) end) ≤ m
+as-read n m end z f h = subst (λ (x : ℤ). n + length (fieldText x end) ≤ m) (sym (read f)) h
+
 -- ---- method
 
 fits-method : (c : tie.After-struct-told) → SFits w32 (c .before .before .before .args .o .method)
@@ -37,7 +42,7 @@ fits-method c = search needs
 put-field-requires : tie.Need-put-field-requires
 put-field-requires c κs =
     let s = c .before .before .before in
-    rw (read (fits-method c)) (omega (arith, s .pre, opening-length (s .args .o)))
+    as-read _ _ _ _ (fits-method c) (omega (arith, s .pre, opening-length (s .args .o)))
 
 abbrev start-of : tie.After-put-field → tie.Start
 start-of c = c .before .before .before .before
@@ -54,7 +59,7 @@ put-field-requires-2 : tie.Need-put-field-requires-2
 put-field-requires-2 c κs =
     let f = c .before .before .before .before in
     let s = start-of f in
-    rw (read (fits-first c)) (omega (arith, s .pre, opening-length (s .args .o), first f .ends, same-size (first f)))
+    as-read _ _ _ _ (fits-first c) (omega (arith, s .pre, opening-length (s .args .o), first f .ends, same-size (first f)))
 
 abbrev start-of-2 : tie.After-put-field2 → tie.Start
 start-of-2 c = start-of (c .before .before .before .before .before)
@@ -75,7 +80,7 @@ put-field-requires-3 : tie.Need-put-field-requires-3
 put-field-requires-3 c κs =
     let f = c .before .before .before .before in
     let s = start-of-2 f in
-    rw (read (fits-second c)) (omega (arith, s .pre, opening-length (s .args .o), two-length (s .args .o), second f .ends, same-size (second f)))
+    as-read _ _ _ _ (fits-second c) (omega (arith, s .pre, opening-length (s .args .o), two-length (s .args .o), second f .ends, same-size (second f)))
 
 abbrev start-of-3 : tie.After-put-field3 → tie.Start
 start-of-3 c = start-of-2 (c .before .before .before .before .before)
@@ -97,7 +102,7 @@ put-field-requires-4 c κs =
     let f = c .before .before .before .before in
     let s = start-of-3 f in
     let o = s .args .o in
-    rw (read (fits-tolerance c)) (omega (arith, s .pre, opening-length o, two-length o, three-length o, third f .ends, same-size (third f)))
+    as-read _ _ _ _ (fits-tolerance c) (omega (arith, s .pre, opening-length o, two-length o, three-length o, third f .ends, same-size (third f)))
 
 abbrev start-of-4 : tie.After-put-field4 → tie.Start
 start-of-4 c = start-of-3 (c .before .before .before .before .before)

@@ -14,7 +14,7 @@ use Rattle.clean_sheets.specs.declared.Written.{Written}
 use Rattle.clean_sheets.specs.Clean.{longestSheet}
 use Rattle.clean_sheets.specs.ClaimsHold.{is-short}
 use Rattle.sheet_text.specs.PiecesLaws.{same-size, front-length, front-text}
-use Rattle.writing.specs.SoFar.{wholeSheet}
+use Rattle.composing.specs.SoFar.{wholeSheet}
 use Rattle.writing.proofs.write_accepted.Statement.{statement}
 use Rattle.writing.proofs.write_accepted.Tie as tie
 
@@ -25,33 +25,33 @@ sheet-of s = wholeSheet (s .args .o) (take (s .args .count) (s .args .slots .now
 short : (s : tie.Start) → length (sheet-of s) ≤ longestSheet
 short s = is-short (s .args .o) (take (s .args .count) (s .args .slots .now)) (s .pre .1)
 
-slice-aggregate-sheet-into : tie.Need-slice-aggregate-sheet-into
-slice-aggregate-sheet-into c = let s = c .before .before in sym (length-take-le (s .args .count) (s .args .slots .now) (s .pre .0))
+slice-aggregate-compose : tie.Need-slice-aggregate-compose
+slice-aggregate-compose c = let s = c .before .before in sym (length-take-le (s .args .count) (s .args .slots .now) (s .pre .0))
 
-slice-aggregate-sheet-into-2 : tie.Need-slice-aggregate-sheet-into-2
-slice-aggregate-sheet-into-2 c = search needs
+slice-aggregate-compose-2 : tie.Need-slice-aggregate-compose-2
+slice-aggregate-compose-2 c = search needs
 
-sheet-into-requires : tie.Need-sheet-into-requires
-sheet-into-requires c κs = let s = c .before .before .before in (s .pre .1, omega (arith, short s))
+compose-requires : tie.Need-compose-requires
+compose-requires c κs = let s = c .before .before .before in (s .pre .1, omega (arith, short s))
 
 returns : tie.Need-returns
 unfolding placed
 returns c =
-    let n = front-length (c .before .before .sheet-into .ensures) in
+    let n = front-length (c .before .before .compose .ensures) in
     simp (lt-ltb _ _ (rw n at (c .if1 .taken)), lt-leb _ _ (rw n at (c .if1 .taken))) (refl, refl)
 
 -- where the buffer is long enough
 abbrev start-of : tie.Else1 → tie.Start
 start-of c = c .before .before .before .before .before .before
 
-inside : (c : tie.Else1) → c .before .before .sheet-into .result ≤ length (c .before .before .sheet-into .last .1 .1 .0)
+inside : (c : tie.Else1) → c .before .before .compose .result ≤ length (c .before .before .compose .last .1 .1 .0)
 inside c =
-    let m = c .before .before .sheet-into .ensures in
+    let m = c .before .before .compose .ensures in
     omega (arith, front-length m, m .room, same-size m)
 
 -- what was made is the sheet
-made : (c : tie.Else1) → take (c .before .before .sheet-into .result) (c .before .before .sheet-into .last .1 .1 .0) ≡ sheet-of (start-of c)
-made c = front-text (c .before .before .sheet-into .ensures)
+made : (c : tie.Else1) → take (c .before .before .compose .result) (c .before .before .compose .last .1 .1 .0) ≡ sheet-of (start-of c)
+made c = front-text (c .before .before .compose .ensures)
 
 array-share-prefix-sheet : tie.Need-array-share-prefix-sheet
 array-share-prefix-sheet c = inside c
@@ -67,7 +67,7 @@ abbrev else-of : tie.After-place-text → tie.Else1
 else-of c = c .before .before .before
 
 fits : (c : tie.After-place-text) → length (sheet-of (start-of (else-of c))) ≤ length (start-of (else-of c) .args .out .now)
-fits c = omega (arith, front-length (else-of c .before .before .sheet-into .ensures), else-of c .if1 .left)
+fits c = omega (arith, front-length (else-of c .before .before .compose .ensures), else-of c .if1 .left)
 
 whole : (c : tie.After-place-text) → c .place-text .result ≡ length (sheet-of (start-of (else-of c)))
 unfolding placedLength
@@ -88,9 +88,9 @@ pub write-accepted-spec : {M : Type 1} → statement M
 write-accepted-spec =
     tie.close
     (tie.spec
-    slice-aggregate-sheet-into
-    slice-aggregate-sheet-into-2
-    sheet-into-requires
+    slice-aggregate-compose
+    slice-aggregate-compose-2
+    compose-requires
     returns
     array-share-prefix-sheet
     slice-aggregate-place-text

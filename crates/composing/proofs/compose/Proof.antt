@@ -1,12 +1,12 @@
--- `writing::sheet_into` meets its contract: the opening's record at the beginning, and the answers' behind it.
+-- `composing::compose` meets its contract: the opening's record at the beginning, and the answers' behind it.
 -- Assumes nothing.
 use mathlib.Core.Path.{_≡_, refl, sym}
 use native.Mathlib.Omega.{arith}
 use borrow.Author.Needs.{needs}
 use Rattle.sheet_text.specs.PiecesLaws.{same-size, puts-more, in-words}
-use Rattle.writing.specs.SoFar.{whole-text, whole-length}
-use Rattle.writing.proofs.sheet_into.Statement.{statement}
-use Rattle.writing.proofs.sheet_into.Tie as tie
+use Rattle.composing.specs.SoFar.{whole-text, whole-length}
+use Rattle.composing.proofs.compose.Statement.{statement}
+use Rattle.composing.proofs.compose.Tie as tie
 
 put-opening-requires : tie.Need-put-opening-requires
 put-opening-requires c κs = let s = c .before .before in omega (arith, s .pre .1, whole-length (s .args .o) (s .args .values .now))
@@ -28,5 +28,5 @@ returns c =
     let s = p .before .before .before .args in
     in-words (puts-more (p .put-opening .ensures) (a .answers-into .ensures)) (sym (whole-text (s .o) (s .values .now))) refl refl
 
-pub sheet-into-spec : {M : Type 1} → statement M
-sheet-into-spec = tie.close (tie.spec put-opening-requires answers-into-requires same-length returns)
+pub compose-spec : {M : Type 1} → statement M
+compose-spec = tie.close (tie.spec put-opening-requires answers-into-requires same-length returns)
