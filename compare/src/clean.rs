@@ -29,12 +29,16 @@ pub fn clean_sheets(rng: &mut Rng, tally: &mut Tally) -> Checked {
         let book = cases::answered(cases::accepted_opening(rng), rng);
         stages_agree(book.opening(), &book.values(), rng, tally)?;
     }
+    let mut longest = 0;
     for method in [1, 2] {
         let opening = Opening::new(method, 0, 20_000, 1);
         for order in beam::longest(&opening, ORDERS, rng) {
             stages_agree(&opening, &order, rng, tally)?;
+            let sheet = model::clean(&Book::of(opening, &order).search());
+            longest = longest.max(sheet.map_or(0, |text| text.len()));
         }
     }
+    println!("longest clean sheet of these: {longest} bytes, the bound is {LONGEST_CLEAN_SHEET}");
     Ok(())
 }
 

@@ -2,7 +2,7 @@
 -- and the one that an accepted sheet is read as.
 -- Assumes nothing.
 use Prim.Native.Nat.{ℕ, zero, suc, _+_, _≤_, _<_}
-use mathlib.Core.Path.{_≡_, refl, sym, ap, ap₂, subst, _∙_}
+use mathlib.Core.Path.{_≡_, refl, sym, ap, subst, _∙_}
 use mathlib.Core.Bool.{Bool, true, false, not}
 use mathlib.Core.List.{List, [], _∷_, foldl}
 use native.Mathlib.Nat.{add-zero, zero-add}
@@ -16,7 +16,7 @@ use Rattle.rules.specs.declared.Opening.{Opening}
 use Rattle.rules.specs.declared.Bracket.{Bracket}
 use Rattle.rules.specs.declared.Progress.{Progress}
 use Rattle.rules.specs.declared.Report.{Report}
-use Rattle.rules.specs.Rules.{largestValue, firstOf, secondOf, startOf, stoppedOf, nextOf, advanceOf}
+use Rattle.rules.specs.Rules.{largestValue, firstOf, secondOf, startOf, nextOf, advanceOf}
 use Rattle.rules.specs.Refusals.{openingRefusal, Accepted}
 use Rattle.rules.specs.Search.{isRefused, stoppedAt, otherAt, beginOf, offerOf, takeOf, progressOf, answersOf, bracketReport, reportAt, reportOf}
 use Rattle.rules.specs.SearchLaws.{CountedAt, counted-offer, refused-stays, answers-stay, accepted-of, Taken, taken-is}

@@ -12,7 +12,6 @@ use Rattle.rules.specs.declared.Report.{Report}
 use Rattle.rules.specs.Rules.{slots, padded}
 use Rattle.rules.specs.Search.{reportOf, isRefusal}
 use Rattle.held.specs.declared.Search.{Search}
-use Rattle.held.specs.declared.Entered.{Entered}
 use Rattle.held.specs.Held.{valuesOf, heldReport}
 use Rattle.outcomes.specs.Sheet.{sheetOf}
 use Rattle.journal.specs.Answers.{Answer, points, values}

@@ -1,7 +1,7 @@
 -- The claims on clean sheets hold. An accepted search holds a journal that answers have made, so its clean sheet spells that journal, and
 -- the reader reads it as the search that holds it. An accepted sheet is read as such a journal too.
 -- Assumes nothing.
-use Prim.Native.Nat.{ℕ, _≤_, _<_}
+use Prim.Native.Nat.{ℕ, _≤_}
 use mathlib.Core.Path.{_≡_, refl, sym, ap, ap₂, subst, subst₂, _∙_}
 use mathlib.Core.Bool.{Bool, true, false, cond}
 use mathlib.Core.List.{List, foldl}
@@ -9,7 +9,7 @@ use native.Mathlib.Omega.{arith}
 use borrow.Author.Tests.{eqb-true}
 use lib.Dec.{eqb}
 use lib.IntN.{ℤ}
-use lib.ListN.{length, length-map}
+use lib.ListN.{length}
 use lib.Seq.{length-take-le}
 use Rattle.integers.specs.SignsLaws.{never}
 use Rattle.rules.specs.declared.Opening.{Opening}
@@ -17,7 +17,7 @@ use Rattle.rules.specs.declared.Progress.{Progress}
 use Rattle.rules.specs.declared.Report.{Report}
 use Rattle.rules.specs.Rules.{slots, padded}
 use Rattle.rules.specs.Refusals.{openingRefusal, Accepted}
-use Rattle.rules.specs.RefusalsLaws.{Opened, opened}
+use Rattle.rules.specs.RefusalsLaws.{opened}
 use Rattle.rules.specs.Search.{isRefused, beginOf, takeOf, progressOf, isRefusal, reportAt, reportOf}
 use Rattle.rules.specs.SearchLaws.{accepted-of, refusal-is}
 use Rattle.verdicts.specs.Judged.{standingBy}
@@ -30,7 +30,7 @@ use Rattle.forms.specs.declared.Entries.{Entries}
 use Rattle.forms.specs.Entries.{openingPlace, filled, entriesOf}
 use Rattle.outcomes.specs.Sheet.{leadsTo, settledAs, refusedAt, outcomeOf, sheetOf}
 use Rattle.outcomes.specs.SheetLaws.{sheet-refused, sheet-read}
-use Rattle.journal.specs.Answers.{Answer, answerValue, points, values}
+use Rattle.journal.specs.Answers.{Answer, points, values}
 use Rattle.journal.specs.Journal.{journalReport}
 use Rattle.journal.specs.Spelling.{CleanText}
 use Rattle.journal.specs.Reading.{ReadAs}
@@ -39,8 +39,8 @@ use Rattle.journal.specs.SpellingLaws.{reading, spelled-read}
 use Rattle.journal.specs.CleanLaws.{clean-sheet, one-text}
 use Rattle.journal.specs.JournalLaws.{Kept, report-list}
 use Rattle.journal.specs.RunLaws.{journal-fits, values-held, report-held, read-leads, sheet-outcome, spellable-opening, spellable-journal}
-use Rattle.clean_sheets.specs.Clean.{withPoints, heldAnswers, answersText, sheetText, cleanOf, longestSheet, cleanedOf, rewrittenOf}
-use Rattle.clean_sheets.specs.Claims.{AcceptedSearch, cleared, CleanSheet, EveryCleanSheet, Rewritten, EveryRewritten}
+use Rattle.clean_sheets.specs.Clean.{withPoints, heldAnswers, sheetText, cleanOf, longestSheet, cleanedOf, rewrittenOf}
+use Rattle.clean_sheets.specs.Claims.{AcceptedSearch, cleared, EveryCleanSheet, EveryRewritten}
 use Rattle.clean_sheets.specs.TextLaws.{text-clean}
 use Rattle.clean_sheets.specs.AnswersLaws.{same-values, as-many, begins, kept-values, called-for, Matched, matched}
 use Rattle.clean_sheets.specs.LengthLaws.{answers-short, sheet-short}

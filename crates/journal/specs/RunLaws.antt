@@ -23,7 +23,6 @@ use Rattle.rules.specs.Refusals.{Accepted}
 use Rattle.rules.specs.RefusalsLaws.{Opened, opened, Ranged}
 use Rattle.rules.specs.Search.{isRefused, takenOf, otherAt, enteredAt, answeredAt, offerOf, takeOf, progressOf, answersOf, reportAt}
 use Rattle.rules.specs.SearchLaws.{Sound, ahead, counts, most-slots}
-use Rattle.held.specs.declared.Entered.{Entered}
 use Rattle.held.specs.Held.{valuesOf, standingOf, heldReport, withValue, triedOf, enterOf}
 use Rattle.held.specs.HeldLaws.{enter-refused, enter-accepted}
 use Rattle.forms.specs.declared.Entries.{Entries}

@@ -1,6 +1,5 @@
 // The text of a clean sheet, put into a buffer piece by piece: numbers, fields and records. Each function puts its piece from the place `at`
 // on and answers the place behind it. An inner crate: its callers see that there is room.
-ghost use mathlib.Core.Path.{_≡_};
 ghost use Prim.Native.Nat.{_+_, _≤_};
 ghost use lib.ListN.{length};
 ghost use Rattle.lines.specs.Decimal.{decimalOf};

@@ -1,9 +1,9 @@
 -- `cleaning::clean_sheet` meets its contract: a refused sheet is answered by its record, and an accepted one by what the writer tells of the
 -- search that it is.
 -- Assumes nothing.
-use mathlib.Core.Path.{_≡_, sym, ap, _∙_}
+use mathlib.Core.Path.{sym, ap, _∙_}
 use borrow.Author.Needs.{needs}
-use Rattle.cleaning.specs.CleanedLaws.{lengthTold, Cleans, cleans-refused, cleans-accepted}
+use Rattle.cleaning.specs.CleanedLaws.{lengthTold, cleans-refused, cleans-accepted}
 use Rattle.cleaning.proofs.clean_sheet.Statement.{statement}
 use Rattle.cleaning.proofs.clean_sheet.Tie as tie
 

@@ -1,7 +1,7 @@
 -- `composing::answers_into` meets its contract. The loop's invariant: what has been written behind `at`, with what is left, comes to all of
 -- it. The measure is how many values are left.
 -- Assumes nothing.
-use Prim.Native.Nat.{_+_, _-_, _<_}
+use Prim.Native.Nat.{_-_, _<_}
 use mathlib.Core.Path.{_≡_, refl, sym, ap, ap₂, _∙_}
 use native.Mathlib.Omega.{arith}
 use lib.IntN.{ℤ, pos}

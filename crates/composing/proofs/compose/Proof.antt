@@ -1,6 +1,6 @@
 -- `composing::compose` meets its contract: the opening's record at the beginning, and the answers' behind it.
 -- Assumes nothing.
-use mathlib.Core.Path.{_≡_, refl, sym}
+use mathlib.Core.Path.{refl, sym}
 use native.Mathlib.Omega.{arith}
 use borrow.Author.Needs.{needs}
 use Rattle.sheet_text.specs.PiecesLaws.{same-size, puts-more, in-words}

@@ -1,7 +1,6 @@
 -- `sheet_text::put_answer` meets its contract: the point and a comma, the value and CR, and LF, for which there is room.
 -- Assumes nothing.
-use Prim.Native.Nat.{ℕ, _+_, _<_}
-use mathlib.Core.Path.{_≡_, refl}
+use Prim.Native.Nat.{_+_, _<_}
 use mathlib.Core.List.{[], _∷_, _++_}
 use native.Mathlib.Omega.{arith}
 use lib.ListN.{length, set, length-append}
@@ -11,7 +10,7 @@ use Rattle.forms.specs.Bytes.{cr, lf, comma}
 use Rattle.lines.specs.Decimal.{decimalOf}
 use Rattle.clean_sheets.specs.Clean.{numberText}
 use Rattle.sheet_text.specs.Pieces.{fieldText, answerText, Puts}
-use Rattle.sheet_text.specs.PiecesLaws.{answer-length, same-size, puts-more, puts-byte, in-words}
+use Rattle.sheet_text.specs.PiecesLaws.{answer-length, same-size, puts-more, puts-byte}
 use Rattle.sheet_text.proofs.put_answer.Statement.{statement}
 use Rattle.sheet_text.proofs.put_answer.Tie as tie
 

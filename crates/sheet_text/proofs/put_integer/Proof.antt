@@ -1,6 +1,6 @@
 -- `sheet_text::put_integer` meets its contract: a number below 0 is a minus and the digits of its magnitude, and another its digits.
 -- Assumes nothing.
-use Prim.Native.Nat.{ℕ, _+_, _<_}
+use Prim.Native.Nat.{ℕ, _<_}
 use mathlib.Core.Path.{_≡_, refl, sym, ap, _∙_}
 use mathlib.Core.List.{_∷_}
 use native.Mathlib.Omega.{arith}
