@@ -15,7 +15,7 @@ use Rattle.held.specs.declared.Search.{Search}
 use Rattle.held.specs.Held.{valuesOf, heldReport}
 use Rattle.outcomes.specs.Sheet.{sheetOf}
 use Rattle.journal.specs.Answers.{Answer, points, values}
-use Rattle.journal.specs.Spelling.{SheetText, CleanText}
+use Rattle.journal.specs.Spelling.{SheetText, CleanText, Clean}
 use Rattle.journal.specs.Reading.{ReadAs}
 use Rattle.clean_sheets.specs.Clean.{heldAnswers, cleanOf, longestSheet, rewrittenOf}
 
@@ -35,11 +35,10 @@ pub record CleanSheet (s : Search) : Type 0 where
   pub count : length (heldAnswers s) ≡ s .count
   pub held : values (heldAnswers s) ≡ valuesOf s
   pub called : (i : ℕ) → i < s .count → reportOf (s .opening) (take i (valuesOf s)) ≡ Report.Next (natAbs (getD (points (heldAnswers s)) i (pos 0))) i
-  -- the sheet is a clean text of the opening and these answers, and no other text is
+  -- the sheet is a clean text of the opening and these answers; it spells them as the reader takes them, and no other text that is clean does
   pub clean : CleanText (cleanOf s) (s .opening) (heldAnswers s)
-  pub only : (text : List ℕ) → CleanText text (s .opening) (heldAnswers s) → text ≡ cleanOf s
-  -- it spells them as the reader takes them
   pub spelled : SheetText (cleanOf s) (s .opening) (heldAnswers s)
+  pub only : (text : List ℕ) → Clean text → SheetText text (s .opening) (heldAnswers s) → text ≡ cleanOf s
   -- reading it restores the search, fresh slots at 0, and gives its report
   pub restored : sheetOf (cleanOf s) ≡ record { report = heldReport s; search = cleared s }
   -- the same search yields the same bytes, whatever its fresh slots hold

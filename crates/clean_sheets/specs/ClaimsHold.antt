@@ -36,7 +36,7 @@ use Rattle.journal.specs.Spelling.{CleanText}
 use Rattle.journal.specs.Reading.{ReadAs}
 use Rattle.journal.specs.Run.{holding}
 use Rattle.journal.specs.SpellingLaws.{reading, spelled-read}
-use Rattle.journal.specs.CleanLaws.{clean-sheet, one-text}
+use Rattle.journal.specs.CleanLaws.{clean-sheet, one-text, clean-spells}
 use Rattle.journal.specs.JournalLaws.{Kept, report-list}
 use Rattle.journal.specs.RunLaws.{journal-fits, values-held, report-held, read-leads, sheet-outcome, spellable-opening, spellable-journal}
 use Rattle.clean_sheets.specs.Clean.{withPoints, heldAnswers, sheetText, cleanOf, longestSheet, cleanedOf, rewrittenOf}
@@ -126,7 +126,7 @@ clean-sheets s a =
       held = same-values o (beginOf o) vs;
       called = λ i l. called-for o vs fine i (omega (arith, values-count s a));
       clean = is-clean o vs fine;
-      only = λ text t. one-text t (is-clean o vs fine);
+      only = λ text c t. one-text (clean-spells c t (fits o vs fine)) (is-clean o vs fine);
       spelled = clean-sheet (is-clean o vs fine);
       restored = reads-back o vs fine ∙ ap₂ (λ (r : Report) (h : Search). record { report = r; search = h }) (reports s a) (holds s a);
       same = λ s' e f. ap₂ (λ (u : Opening) (ws : List ℤ). sheetText u (withPoints u (beginOf u) ws)) e f;

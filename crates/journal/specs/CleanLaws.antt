@@ -1,21 +1,26 @@
--- Laws of the clean spelling: a clean text is one that the reader takes, and an opening and a list of answers have one clean text at most.
+-- Laws of the clean spelling: a clean text is one that the reader takes; an opening and a list of answers have one clean text at most; and
+-- a clean text that spells them is that one.
 -- Assumes nothing.
 use Prim.Native.Nat.{ℕ, zero, suc, _+_, _≤_, _<_}
-use mathlib.Core.Path.{_≡_, refl, sym, ap, _∙_}
+use mathlib.Core.Path.{_≡_, refl, sym, ap, subst₂, _∙_}
+use mathlib.Core.Bool.{cond}
 use mathlib.Core.List.{List, [], _∷_, _++_}
 use mathlib.Core.Logic.{inl, inr}
+use native.Mathlib.Nat.{zero-add}
 use native.Mathlib.Omega.{arith}
-use borrow.Author.Tests.{le-leb}
+use borrow.Author.Tests.{le-leb, ne-eqb}
+use lib.Dec.{eqb}
 use lib.IntN.{ℤ, pos, negℤ, natAbs}
 use lib.ListN.{length, getD, length-append, List·getD-append}
 use lib.Signed.{leZ}
 use Rattle.integers.specs.SignsLaws.{never}
 use Rattle.rules.specs.declared.Opening.{Opening}
-use Rattle.forms.specs.Bytes.{cr, lf, comma, minus}
+use Rattle.rules.specs.Rules.{slots}
+use Rattle.forms.specs.Bytes.{cr, lf, comma, minus, doubleQuote}
 use Rattle.journal.specs.Answers.{Answer}
 use Rattle.journal.specs.Spelling.{digit, Digits, Numeral, Field, AnswersText, SheetText}
-use Rattle.journal.specs.Spelling.{NoLeadingZero, CleanNumeral, CleanAnswers, CleanText}
-use Rattle.journal.specs.SpellingLaws.{some-digit}
+use Rattle.journal.specs.Spelling.{NoLeadingZero, CleanNumeral, CleanAnswers, CleanText, Clean}
+use Rattle.journal.specs.SpellingLaws.{some-digit, spelled-read, reading}
 
 -- ---- a clean text is one that the reader takes
 
@@ -93,3 +98,70 @@ one-answers (CleanAnswers.next p v r) (CleanAnswers.next q w s) =
 pub one-text : {t u : List ℕ} {o : Opening} {answers : List Answer} → CleanText t o answers → CleanText u o answers → t ≡ u
 one-text (CleanText.sheet a b c d r) (CleanText.sheet e f g h s) =
     λ i. one-numeral a e i ++ comma ∷ one-numeral b f i ++ comma ∷ one-numeral c g i ++ comma ∷ one-numeral d h i ++ cr ∷ lf ∷ one-answers r s i
+
+-- ---- a text spells as many answers as it has commas, less three
+
+unfoldable commas : List ℕ → ℕ
+commas [] = 0
+commas (b ∷ s) = cond (eqb b comma) 1 0 + commas s
+
+commas-append : (s t : List ℕ) → commas (s ++ t) ≡ commas s + commas t
+unfolding commas
+commas-append [] t = sym (zero-add (commas t))
+commas-append (b ∷ s) t = omega (arith, commas-append s t)
+
+-- a byte that is no comma
+other-byte : (b : ℕ) (s : List ℕ) → (b ≡ comma → ⊥) → commas (b ∷ s) ≡ commas s
+unfolding commas
+other-byte b s h = simp (ne-eqb b comma h) (zero-add (commas s))
+
+digits-commas : {s : List ℕ} {n : ℕ} → Digits s n → commas s ≡ 0
+unfolding commas
+digits-commas (Digits.one d h) = other-byte (digit d) [] (λ e. absurd (omega arith))
+digits-commas (Digits.more {s} r d h) =
+    omega (arith, commas-append s (digit d ∷ []), digits-commas r, other-byte (digit d) [] (λ e. absurd (omega arith)))
+
+numeral-commas : {f : List ℕ} {z : ℤ} → Numeral f z → commas f ≡ 0
+unfolding commas
+numeral-commas (Numeral.plain r h) = digits-commas r
+numeral-commas (Numeral.negated {s} r h) = omega (arith, digits-commas r)
+
+field-commas : {f : List ℕ} {z : ℤ} → Field f z → commas f ≡ 0
+unfolding commas
+field-commas (Field.bare n) = numeral-commas n
+field-commas (Field.enclosed {s} n) = omega (arith, commas-append s (doubleQuote ∷ []), numeral-commas n)
+
+answers-commas : {t : List ℕ} {answers : List Answer} → AnswersText t answers → commas t ≡ length answers
+unfolding commas
+answers-commas AnswersText.unended = refl
+answers-commas AnswersText.ended = refl
+answers-commas (AnswersText.next {f} {g} {t} p v r) =
+    omega (arith, commas-append (f ++ comma ∷ g) t, commas-append f (comma ∷ g), field-commas p, field-commas v, answers-commas r)
+
+sheet-commas : {t : List ℕ} {o : Opening} {answers : List Answer} → SheetText t o answers → commas t ≡ 3 + length answers
+unfolding commas
+sheet-commas (SheetText.sheet {f} {g} {h} {k} {t} m x y w r) =
+    let a = f ++ comma ∷ g in
+    let b = a ++ comma ∷ h in
+    let c = b ++ comma ∷ k in
+    omega (
+      arith,
+      commas-append c t,
+      commas-append b (comma ∷ k),
+      commas-append a (comma ∷ h),
+      commas-append f (comma ∷ g),
+      field-commas m,
+      field-commas x,
+      field-commas y,
+      field-commas w,
+      answers-commas r,
+    )
+
+-- ---- so a clean text that spells an opening and no more answers than a search holds is their clean text
+
+pub clean-spells : {text : List ℕ} {o : Opening} {answers : List Answer} → Clean text → SheetText text o answers → length answers ≤ slots
+    → CleanText text o answers
+clean-spells {text} {o} {answers} c s few =
+    let same : length (c .1) ≡ length answers = omega (arith, sheet-commas s, sheet-commas (clean-sheet (c .2))) in
+    let e = reading text .once (c .0) o (c .1) answers (spelled-read (clean-sheet (c .2)) (omega arith)) (spelled-read s few) in
+    subst₂ (CleanText text) (e .0) (e .1) (c .2)

@@ -75,3 +75,7 @@ pub data CleanText : List ℕ → Opening → List Answer → Type 0 where
       → CleanNumeral f (o .method) → CleanNumeral g (o .first) → CleanNumeral h (o .second) → CleanNumeral k (o .tolerance)
       → CleanAnswers t answers
       → CleanText (f ++ comma ∷ g ++ comma ∷ h ++ comma ∷ k ++ cr ∷ lf ∷ t) o answers
+
+-- a text is clean if it is so for some opening and answers
+abbrev pub Clean : List ℕ → Type 0
+Clean text = (o : Opening) × (answers : List Answer) × CleanText text o answers
