@@ -37,7 +37,8 @@ unfolding answersText
 answer-length a answers = rw (length-append, length-append) (omega arith)
 
 -- a point called for has no minus: 14 bytes for each answer
-pub answers-short : (o : Opening) (p : Progress) (vs : List ℤ) → SpellableAnswers (withPoints o p vs) → length (answersText (withPoints o p vs)) ≤ 14 * length vs
+pub answers-short : (o : Opening) (p : Progress) (vs : List ℤ) → SpellableAnswers (withPoints o p vs)
+    → length (answersText (withPoints o p vs)) ≤ 14 * length vs
 unfolding withPoints answersText
 answers-short o p [] h = omega arith
 answers-short o p (v ∷ vs) h =

@@ -17,7 +17,7 @@ use Rattle.held.specs.Held.{heldReport}
 use Rattle.printing.specs.Printed.{recordOf, longestRecord, placed, placedLength}
 use Rattle.outcomes.specs.Sheet.{sheetOf}
 use Rattle.clean_sheets.specs.declared.Written.{Written}
-use Rattle.clean_sheets.specs.Clean.{cleanOf, longestSheet, bufferTooShort, wholeBuffer, writtenAfter, writtenOf, bufferOf, cleanedOf, rewrittenOf}
+use Rattle.clean_sheets.specs.Clean.{cleanOf, longestSheet, bufferTooShort, wholeBuffer, fittedIn, writtenAfter, writtenOf, bufferOf, cleanedOf, rewrittenOf}
 use Rattle.clean_sheets.specs.ClaimsHold.{accepted-cleaned, search-accepted, rewritten}
 
 -- the length that is told, 0 for a refusal
@@ -27,8 +27,7 @@ lengthTold (Written.Refused number place) = 0
 
 -- ---- what the writer tells and leaves of an accepted search
 
-fitted-length : (buffer text : List ℕ)
-    → lengthTold (cond (ltb (length buffer) (length text)) (Written.Refused bufferTooShort wholeBuffer) (Written.Sheet (length text))) ≡ placedLength text buffer
+fitted-length : (buffer text : List ℕ) → lengthTold (fittedIn buffer text) ≡ placedLength text buffer
 unfolding placedLength
 fitted-length buffer text = go (ltb (length buffer) (length text)) refl
   where

@@ -47,7 +47,8 @@ put-field-requires c κs =
 abbrev start-of : tie.After-put-field → tie.Start
 start-of c = c .before .before .before .before
 
-first : (c : tie.After-put-field) → Puts (start-of c .args .out .now) (start-of c .args .at) (one (start-of c .args .o)) (c .put-field .last .0) (c .put-field .result)
+first : (c : tie.After-put-field)
+    → Puts (start-of c .args .out .now) (start-of c .args .at) (one (start-of c .args .o)) (c .put-field .last .0) (c .put-field .result)
 first c = rw (read (fits-method (c .before))) at (c .put-field .ensures)
 
 -- ---- x0
