@@ -1,5 +1,6 @@
 -- The claims on clean sheets, request 2026-02: on the clean sheet of every accepted search, and on that of every sheet that is accepted.
--- Nothing is proved here: ClaimsHold has the proofs. What the writer tells and leaves is its contract (`writing::write_sheet`).
+-- Nothing is proved here: ClaimsHold has the proofs. The contracts of `writing::write_sheet` and `cleaning::clean_sheet` say what is told and
+-- left, and cite the claims.
 -- Assumes nothing.
 use Prim.Native.Nat.{ℕ, _≤_, _<_}
 use mathlib.Core.Path.{_≡_}

@@ -1,18 +1,23 @@
 // A sheet cleaned: the clean sheet of the search that a text is, or the record of its refusal.
 ghost use mathlib.Core.Path.{_≡_};
+ghost use mathlib.Core.Bool.{false};
 ghost use Prim.Native.Nat.{_≤_};
 ghost use lib.ListN.{length};
+ghost use Rattle.rules.specs.Search.{isRefusal};
 ghost use Rattle.printing.specs.Printed.{placed, placedLength};
+ghost use Rattle.outcomes.specs.Sheet.{sheetOf};
 ghost use Rattle.clean_sheets.specs.Clean.{longestSheet, rewrittenOf};
+ghost use Rattle.clean_sheets.specs.Claims.{Rewritten};
 use clean_sheets::Written;
 
 // Writes the clean sheet of a text of any length at the beginning of `out`, whose further bytes keep their contents, and answers its length;
 // for a text that is refused the record that tells the refusal. Where `out` is too short nothing is written, and the answer is 0. A buffer
-// of clean_sheets::LONGEST_SHEET bytes is long enough for every text.
+// of clean_sheets::LONGEST_SHEET bytes is long enough for every text. Of every text that is not refused the claim on sheets cleaned holds.
 pub fn clean_sheet(text: &[u8], out: &mut [u8]) -> usize
     ensures { λ r. ⌜ r ≡ placedLength (rewrittenOf (now (text .entry))) (now (out .entry)) ⌝ }
     ensures { λ _. ⌜ now (out .exit) ≡ placed (rewrittenOf (now (text .entry))) (now (out .entry)) ⌝ }
     ensures { λ _. ⌜ length (rewrittenOf (now (text .entry))) ≤ longestSheet ⌝ }
+    ensures { λ _. ⌜ (isRefusal (sheetOf (now (text .entry)) .report) ≡ false → Rewritten (now (text .entry))) ⌝ }
 {
     let e = sheet::read_sheet(text);
     let report = e.report;

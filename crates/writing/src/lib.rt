@@ -3,9 +3,11 @@ ghost use mathlib.Core.Path.{_≡_};
 ghost use mathlib.Core.Bool.{false};
 ghost use Prim.Native.Nat.{_≤_};
 ghost use lib.ListN.{length, take};
-ghost use Rattle.rules.specs.Search.{isRefused, beginOf, progressOf};
+ghost use Rattle.rules.specs.Search.{isRefused, isRefusal, beginOf, progressOf};
+ghost use Rattle.held.specs.Held.{heldReport};
 ghost use Rattle.printing.specs.Printed.{placed};
 ghost use Rattle.clean_sheets.specs.Clean.{withPoints, sheetText, fittedIn, writtenOf, bufferOf};
+ghost use Rattle.clean_sheets.specs.Claims.{CleanSheet};
 use clean_sheets::Written;
 use held::Search;
 use rules::Opening;
@@ -34,10 +36,11 @@ fn write_accepted(o: Opening, count: u32, slots: &[i32], out: &mut [u8]) -> Writ
 
 // Writes the clean sheet of a search at the beginning of `out`, whose further bytes keep their contents, and tells its length. The
 // search's own refusal comes first, then 13 where `out` is shorter than the sheet; nothing is written then. A buffer of
-// clean_sheets::LONGEST_SHEET bytes is long enough for every search.
+// clean_sheets::LONGEST_SHEET bytes is long enough for every search. Of every search that is not refused the claim on clean sheets holds.
 pub fn write_sheet(search: Search, out: &mut [u8]) -> Written
     ensures { λ r. ⌜ r ≡ writtenOf search (now (out .entry)) ⌝ }
     ensures { λ _. ⌜ now (out .exit) ≡ bufferOf search (now (out .entry)) ⌝ }
+    ensures { λ _. ⌜ (isRefusal (heldReport search) ≡ false → CleanSheet search) ⌝ }
 {
     let report = search.report();
     if let Report::Refused { number, place } = report {

@@ -3,6 +3,7 @@
 -- Assumes nothing.
 use mathlib.Core.Path.{sym, ap, _∙_}
 use borrow.Author.Needs.{needs}
+use Rattle.clean_sheets.specs.ClaimsHold.{rewritten}
 use Rattle.cleaning.specs.CleanedLaws.{lengthTold, cleans-refused, cleans-accepted}
 use Rattle.cleaning.proofs.clean_sheet.Statement.{statement}
 use Rattle.cleaning.proofs.clean_sheet.Tie as tie
@@ -26,7 +27,7 @@ returns c =
     let told = w .write-report .ensures in
     let read = t .before .before .read-sheet in
     let k = cleans-refused _ _ _ _ (read .result) (read .ensures) (sym (t .before .is-refusal .ensures) ∙ t .if1 .taken) (told .0) (told .1 .0) (told .1 .1) in
-    (k .long, (k .bytes, k .short))
+    (k .long, (k .bytes, (k .short, rewritten _)))
 
 write-sheet-requires : tie.Need-write-sheet-requires
 write-sheet-requires c κs = search needs
@@ -50,8 +51,8 @@ returns-2 c =
     let told = w .write-sheet .ensures in
     let read = t .before .before .read-sheet in
     let long = ap lengthTold (sym (c .before .written .given .1) ∙ told .0) in
-    let k = cleans-accepted _ _ _ _ (read .result) (read .ensures) (sym (t .before .is-refusal .ensures) ∙ t .if1 .left) long (told .1) in
-    (k .long, (k .bytes, k .short))
+    let k = cleans-accepted _ _ _ _ (read .result) (read .ensures) (sym (t .before .is-refusal .ensures) ∙ t .if1 .left) long (told .1 .0) in
+    (k .long, (k .bytes, (k .short, rewritten _)))
 
 same-length-3 : tie.Need-same-length-3
 same-length-3 c = search needs
@@ -63,8 +64,8 @@ returns-3 c =
     let told = w .write-sheet .ensures in
     let read = t .before .before .read-sheet in
     let long = ap lengthTold (sym (c .enum-told .given .1) ∙ told .0) in
-    let k = cleans-accepted _ _ _ _ (read .result) (read .ensures) (sym (t .before .is-refusal .ensures) ∙ t .if1 .left) long (told .1) in
-    (k .long, (k .bytes, k .short))
+    let k = cleans-accepted _ _ _ _ (read .result) (read .ensures) (sym (t .before .is-refusal .ensures) ∙ t .if1 .left) long (told .1 .0) in
+    (k .long, (k .bytes, (k .short, rewritten _)))
 
 pub clean-sheet-spec : {M : Type 1} → statement M
 clean-sheet-spec =

@@ -21,7 +21,7 @@ same-length c = search needs
 returns : tie.Need-returns
 returns c =
     let w = c .before .before .before .before .before .write-sheet .ensures in
-    (ap writtenRowOf (sym (c .before .told .given .1) ∙ w .0), w .1)
+    (ap writtenRowOf (sym (c .before .told .given .1) ∙ w .0), w .1 .0)
 
 same-length-2 : tie.Need-same-length-2
 same-length-2 c = search needs
@@ -29,7 +29,7 @@ same-length-2 c = search needs
 returns-2 : tie.Need-returns-2
 returns-2 c =
     let w = c .before .before .before .before .before .write-sheet .ensures in
-    (ap writtenRowOf (sym (c .before .told2 .given .1) ∙ w .0), w .1)
+    (ap writtenRowOf (sym (c .before .told2 .given .1) ∙ w .0), w .1 .0)
 
 pub step-write-spec : {M : Type 1} → statement M
 step-write-spec =

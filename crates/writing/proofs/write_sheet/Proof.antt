@@ -16,7 +16,7 @@ use Rattle.rules.specs.Search.{isRefusal}
 use Rattle.held.specs.Held.{heldReport}
 use Rattle.clean_sheets.specs.Clean.{cleanOf, fittedIn, writtenAfter, writtenOf, bufferOf}
 use Rattle.clean_sheets.specs.Claims.{AcceptedSearch}
-use Rattle.clean_sheets.specs.ClaimsHold.{count-within, values-accepted}
+use Rattle.clean_sheets.specs.ClaimsHold.{count-within, values-accepted, clean-sheets}
 use Rattle.writing.proofs.write_sheet.Statement.{statement}
 use Rattle.writing.proofs.write_sheet.Tie as tie
 
@@ -43,7 +43,7 @@ returns : tie.Need-returns
 unfolding writtenOf bufferOf
 returns c =
     let told = c .before .before .before .report .ensures in
-    rw (sym told ∙ c .before .report2 .given .1) (refl, refl)
+    rw (sym told ∙ c .before .report2 .given .1) (refl, (refl, λ h. never h))
 
 -- the report is no refusal
 accepted : (m : tie.At-match-keys2) → AcceptedSearch (m .before .before .before .args .t1)
@@ -68,7 +68,8 @@ returns-2 c =
     let m = w .before .before .before .before .before .before in
     let s = m .before .before .before .args in
     let told = accepted m .accepted in
-    (w .write-accepted .ensures .0 ∙ fitted (heldReport (s .t1)) (s .out .now) (cleanOf (s .t1)) told, w .write-accepted .ensures .1 ∙ simp told)
+    let e = w .write-accepted .ensures in
+    (e .0 ∙ fitted (heldReport (s .t1)) (s .out .now) (cleanOf (s .t1)) told, (e .1 ∙ simp told, λ h. clean-sheets (s .t1) (accepted m)))
 
 pub write-sheet-spec : {M : Type 1} → statement M
 write-sheet-spec =
