@@ -3,14 +3,14 @@
 use Prim.Native.Nat.{ℕ, _+_, _-_, _≤_}
 use mathlib.Core.Path.{_≡_}
 use mathlib.Core.Bool.{Bool, false, cond, not}
-use mathlib.Core.List.{List, foldl}
+use mathlib.Core.List.{List, _++_, foldl}
 use lib.Dec.{ltb}
 use lib.IntN.{ℤ, pos}
-use lib.ListN.{length, getD, drop}
+use lib.ListN.{length, getD, take, drop}
 use Rattle.integers.specs.Signs.{eqZ}
 use Rattle.rules.specs.declared.Opening.{Opening}
 use Rattle.rules.specs.declared.Progress.{Progress}
-use Rattle.rules.specs.Search.{otherAt, takeOf, progressOf, answersOf}
+use Rattle.rules.specs.Search.{isRefused, otherAt, takeOf, progressOf, answersOf}
 use Rattle.rules.specs.SearchLaws.{SoundAt}
 
 -- the value of answer i: one of vs, and then of ts
@@ -29,9 +29,11 @@ otherFrom o n xs i p = cond (ltb i n) false (otherAt o p (getD xs (i - n) (pos 0
 abbrev pub onwardOf : Opening → (values points tail : List ℤ) → ℕ → Progress → Progress
 onwardOf o vs xs ts i p = answersOf o (foldl (takeOf o) p (drop i vs)) (drop (i - length vs) xs) (drop (i - length vs) ts)
 
--- the first i answers have led to p: where all of them lead is where the others lead from p
+-- the first i answers have led to p: it is where the search over their values stands, unless one was refused; and where all of them lead
+-- is where the others lead from p
 pub record Led (o : Opening) (values points tail : List ℤ) (i : ℕ) (p : Progress) : Type 0 where
   pub sound : SoundAt o p
+  pub reached : isRefused p ≡ false → progressOf o (take i (values ++ tail)) ≡ p
   pub onward : answersOf o (progressOf o values) points tail ≡ onwardOf o values points tail i p
 
 -- a search that has neither a bracket nor a refusal after the first two of n answers has had them all

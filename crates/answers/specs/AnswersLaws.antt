@@ -1,16 +1,17 @@
 -- The laws of the walk: none, one more, and where it ends.
 -- Assumes nothing.
 use Prim.Native.Nat.{ℕ, _+_, _-_, _≤_, _<_}
-use mathlib.Core.Path.{_≡_, refl, sym, subst, _∙_}
+use mathlib.Core.Path.{_≡_, refl, sym, ap, subst, _∙_}
 use mathlib.Core.Bool.{Bool, true, false, cond}
-use mathlib.Core.List.{List}
+use mathlib.Core.List.{List, [], _∷_, _++_}
+use native.Mathlib.Nat.{le-refl}
 use native.Mathlib.Numerals.{add-one}
 use native.Mathlib.Omega.{arith}
 use borrow.Author.Tests.{ltb-true, ltb-false, eq-eqb, ne-eqb}
 use lib.Dec.{ltb, eqb}
 use lib.IntN.{ℤ, pos}
-use lib.ListN.{length, drop, drop-of-length-le}
-use lib.Seq.{drop-cons}
+use lib.ListN.{length, getD, take, drop, length-append, drop-of-length-le, List·getD-append}
+use lib.Seq.{take-all, take-suc, drop-cons, getD-append-add}
 use Rattle.integers.specs.SignsLaws.{never}
 use Rattle.rules.specs.declared.Opening.{Opening}
 use Rattle.rules.specs.declared.Bracket.{Bracket}
@@ -20,7 +21,7 @@ use Rattle.rules.specs.Rules.{lowerOf, upperOf, stoppedOf, nextOf}
 use Rattle.rules.specs.Refusals.{openingRefusal, answerRefusal, tooLarge}
 use Rattle.rules.specs.Search.{isRefused, stoppedAt, sameSideAt, takenOf, enteredAt, answeredAt, beginOf, offerOf, takeOf, progressOf}
 use Rattle.rules.specs.Search.{answersOf, bracketReport, reportAt}
-use Rattle.rules.specs.SearchLaws.{sound-begin, sound-offer, refused-stays, answers-stay}
+use Rattle.rules.specs.SearchLaws.{sound-begin, sound-offer, refused-stays, answers-stay, taken-is, accepted-more}
 use Rattle.answers.specs.Answers.{valueAt, otherThan, otherFrom, onwardOf, Led, Ended}
 
 -- a search that is not refused tries the answer
@@ -49,7 +50,7 @@ second-ended o n u other v = go (eqb (answerRefusal false other (tooLarge v) (sa
 module _ (o : Opening) (vs xs ts : List ℤ) where
   pub led-none : Led o vs xs ts 0 (beginOf o)
   unfolding progressOf
-  led-none = let z : 0 - length vs ≡ 0 = omega arith in record { sound = sound-begin o; onward = rw z }
+  led-none = let z : 0 - length vs ≡ 0 = omega arith in record { sound = sound-begin o; reached = λ fine. refl; onward = rw z }
 
   stays : (i : ℕ) (p : Progress) → length vs + length ts ≤ i → length xs ≡ length ts → onwardOf o vs xs ts i p ≡ p
   unfolding answersOf
@@ -67,12 +68,38 @@ module _ (o : Opening) (vs xs ts : List ℤ) where
   unfolding beginOf
   led-unopened n f h = subst (Led o vs xs ts 0) (rw (← f) (simp (ne-eqb n 0 h))) led-none
 
+  value-is : (i : ℕ) → valueAt vs ts i ≡ getD (vs ++ ts) i (pos 0)
+  unfolding valueAt
+  value-is i = go (ltb i (length vs)) refl
+    where
+      go : (b : Bool) → ltb i (length vs) ≡ b → cond b (getD vs i (pos 0)) (getD ts (i - length vs) (pos 0)) ≡ getD (vs ++ ts) i (pos 0)
+      go true f = sym (List·getD-append vs ts (pos 0) i (ltb-true i (length vs) f))
+      go false f =
+          let q : length vs ≤ i = ltb-false i (length vs) f in
+          let s : length vs + (i - length vs) ≡ i = omega arith in
+          sym (getD-append-add vs ts (i - length vs) (pos 0)) ∙ ap (λ (j : ℕ). getD (vs ++ ts) j (pos 0)) s
+
   module _ (i : ℕ) (p : Progress) (l : Led o vs xs ts i p) where
+    -- one answer more, accepted: where the search over its values stands
+    reached-more : i < length vs + length ts → (other : Bool) → isRefused (offerOf o p other (valueAt vs ts i)) ≡ false
+        → progressOf o (take (i + 1) (vs ++ ts)) ≡ offerOf o p other (valueAt vs ts i)
+    reached-more h other fine =
+        let v = valueAt vs ts i in
+        let at = l .reached (taken-is o p other v fine .standing) in
+        let more : take (i + 1) (vs ++ ts) ≡ take i (vs ++ ts) ++ (v ∷ []) =
+        ap (λ (n : ℕ). take n (vs ++ ts)) (add-one i)
+        ∙ take-suc (vs ++ ts) i (pos 0) (omega (arith, length-append vs ts))
+        ∙ ap (λ (z : ℤ). take i (vs ++ ts) ++ (z ∷ [])) (sym (value-is i)) in
+        ap (progressOf o) more
+        ∙ sym (accepted-more o (take i (vs ++ ts)) other v (ap (λ (q : Progress). isRefused (offerOf o q other v)) at ∙ fine))
+        ∙ ap (λ (q : Progress). offerOf o q other v) at
+
     -- one answer more
     pub led-more : i < length vs + length ts → length xs ≡ length ts
         → Led o vs xs ts (i + 1) (offerOf o p (otherFrom o (length vs) xs i p) (valueAt vs ts i))
     unfolding otherFrom valueAt takeOf answersOf
-    led-more h e = record { sound = sound-offer o p _ _ (l .sound); onward = l .onward ∙ go (ltb i (length vs)) refl }
+    led-more h e =
+        record { sound = sound-offer o p _ _ (l .sound); reached = λ fine. reached-more h _ fine; onward = l .onward ∙ go (ltb i (length vs)) refl }
       where
         go : (b : Bool) → ltb i (length vs) ≡ b
             → onwardOf o vs xs ts i p ≡ onwardOf o vs xs ts (i + 1) (offerOf o p (otherFrom o (length vs) xs i p) (valueAt vs ts i))
@@ -101,10 +128,17 @@ module _ (o : Opening) (vs xs ts : List ℤ) where
 
     -- so neither changes with the answers counted
     pub led-on : (j : ℕ) → i ≤ j → length vs + length ts ≤ i → length xs ≡ length ts → Led o vs xs ts j p
-    led-on j g h e = record { sound = l .sound; onward = led-end h e ∙ sym (stays j p (omega arith) e) }
+    led-on j g h e =
+        let whole : (n : ℕ) → i ≤ n → take n (vs ++ ts) ≡ vs ++ ts = λ n m. take-all n (vs ++ ts) (omega (arith, length-append vs ts)) in
+        record {
+          sound = l .sound;
+          reached = λ fine. ap (progressOf o) (whole j g ∙ sym (whole i (le-refl i))) ∙ l .reached fine;
+          onward = led-end h e ∙ sym (stays j p (omega arith) e);
+        }
 
     pub led-refused-on : (j : ℕ) → isRefused p ≡ true → Led o vs xs ts j p
-    led-refused-on j e = record { sound = l .sound; onward = led-refused e ∙ sym (refuses j p e) }
+    led-refused-on j e =
+        record { sound = l .sound; reached = λ fine. never (sym e ∙ fine); onward = led-refused e ∙ sym (refuses j p e) }
 
     -- one answer more, refused or entered: n is its refusal, `other` whether it names another point, and v its value
     module _ (going : isRefused p ≡ false) (h : i < length vs + length ts) (e : length xs ≡ length ts) (other : Bool) (v : ℤ) (n : ℕ)

@@ -1,37 +1,36 @@
 // Brackets, by value: the first one, of rule 1 of document 01, and the one after a new point with its value, of rules 6 and 7.
 ghost use mathlib.Core.Path.{_≡_};
 ghost use Prim.Native.Nat.{_<_};
-ghost use Rattle.rules.specs.Rules.{gapOf, widthOf, startOf, partnerOf, thirdOf, streakOf, renewedOf, advanceOf};
+ghost use Rattle.rules.specs.Rules.{pairOf, startOf, gapOf, widthOf, partnerOf, thirdOf, streakOf, renewedOf, advanceOf};
 ghost use Rattle.brackets.specs.Countable.{Countable};
 use rules::Bracket;
 use rules::Sample;
 
 // ---- rule 1
 
+// The bracket of b and a = c after two answers, of which x was the second.
+fn pair(b: Sample, c: Sample, x: Sample) -> Bracket
+    ensures { λ r. ⌜ r ≡ pairOf b c x ⌝ }
+{
+    Bracket {
+        better: b,
+        other: c,
+        previous: c,
+        third: c,
+        last: x,
+        streak: 0,
+        taken: 2,
+    }
+}
+
 // Rule 1: the bracket of the first two samples.
 pub fn start(x0: Sample, x1: Sample) -> Bracket
     ensures { λ r. ⌜ r ≡ startOf x0 x1 ⌝ }
 {
     if comparisons::closer(x1, x0) {
-        Bracket {
-            better: x1,
-            other: x0,
-            previous: x0,
-            third: x0,
-            last: x1,
-            streak: 0,
-            taken: 2,
-        }
+        pair(x1, x0, x1)
     } else {
-        Bracket {
-            better: x0,
-            other: x1,
-            previous: x1,
-            third: x1,
-            last: x1,
-            streak: 0,
-            taken: 2,
-        }
+        pair(x0, x1, x1)
     }
 }
 

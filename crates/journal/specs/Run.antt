@@ -11,11 +11,14 @@ use lib.IntN.{natAbs}
 use lib.ListN.{length, take}
 use Rattle.integers.specs.Digits.{Least}
 use Rattle.rules.specs.declared.Opening.{Opening}
+use Rattle.rules.specs.declared.Bracket.{Bracket}
+use Rattle.rules.specs.declared.Progress.{Progress}
 use Rattle.rules.specs.declared.Report.{Report}
 use Rattle.rules.specs.declared.Quote.{Quote}
-use Rattle.rules.specs.Rules.{padded}
+use Rattle.rules.specs.Rules.{padded, methodOf, widthOf, allowed}
 use Rattle.rules.specs.Refusals.{Accepted}
-use Rattle.rules.specs.Search.{reportOf, distanceOf, tOf, mostOf, quoteOf}
+use Rattle.rules.specs.Search.{progressOf, reportOf, distanceOf, tOf, mostOf, quoteOf}
+use Rattle.rules.specs.Streak.{streakOver}
 use Rattle.held.specs.declared.Search.{Search}
 use Rattle.held.specs.declared.Entered.{Entered}
 use Rattle.held.specs.Held.{freshOf, heldReport, enterOf}
@@ -61,6 +64,14 @@ journalAt o calls i = journalOf o (take i calls)
 abbrev pub holding : Opening → List Answer → Search
 holding o journal = record { opening = o; count = length journal; slots = padded (values journal) }
 
+-- where a search over a journal's values has come to by its running number: it has a bracket, and the number kept there is rule 7's s, by
+-- looking back over the widths of the journal's brackets, and at most m
+pub record Remembered (m : ℕ) (o : Opening) (journal : List Answer) : Type 0 where
+  pub bracket : Bracket
+  pub walked : progressOf o (values journal) ≡ Progress.Bracketed bracket
+  pub streak : bracket .streak ≡ streakOver (map widthOf (bracketsOf journal))
+  pub most : bracket .streak ≤ m
+
 -- ---- the claim
 
 pub record Run (o : Opening) (calls : List Call) : Type 0 where
@@ -76,6 +87,8 @@ pub record Run (o : Opening) (calls : List Call) : Type 0 where
   pub nested : Nested (bracketsOf (journalOf o calls))
   -- and its two values are never both above or both below target
   pub opposed : Opposed (bracketsOf (journalOf o calls))
+  -- at every place from the second accepted answer on: the running number with which the values are walked is rule 7's s, and at most m
+  pub streak : (i : ℕ) → 2 ≤ length (journalAt o calls i) → Remembered (allowed (methodOf o)) o (journalAt o calls i)
   -- at every place: the held search's own report is the journal's
   pub over-held : (i : ℕ) → heldReport (searchAfter (freshOf o) (take i calls)) ≡ journalReport o (journalAt o calls i)
   -- so is that of the search over the list of the journal's values, for n = 0 too

@@ -1,29 +1,30 @@
 -- The claim about whole runs holds: a fresh search holds the empty journal; a search that holds a journal answers each call as the
 -- journal does and then holds the journal's next state; and what is claimed at each place is known of every journal that answers make.
 -- Assumes nothing.
-use Prim.Native.Nat.{ℕ}
+use Prim.Native.Nat.{ℕ, _≤_}
 use mathlib.Core.Path.{_≡_, refl, ap, _∙_}
 use mathlib.Core.Logic.{_↔_}
 use mathlib.Core.List.{List, [], _∷_, map}
 use borrow.Author.Tests.{eq-eqb}
 use native.Mathlib.Omega.{arith}
-use lib.ListN.{take}
+use lib.ListN.{length, take}
 use Rattle.rules.specs.declared.Opening.{Opening}
 use Rattle.rules.specs.declared.Report.{Report}
+use Rattle.rules.specs.Rules.{methodOf, allowed}
 use Rattle.rules.specs.Refusals.{openingRefusal, Accepted}
 use Rattle.rules.specs.RefusalsLaws.{opened}
 use Rattle.rules.specs.Search.{quoteOf}
-use Rattle.rules.specs.SearchLaws.{t-least}
+use Rattle.rules.specs.SearchLaws.{streak-allowed, t-least}
 use Rattle.held.specs.declared.Entered.{Entered}
 use Rattle.held.specs.Held.{freshOf, heldReport}
 use Rattle.outcomes.specs.Sheet.{sheetOf}
-use Rattle.journal.specs.Answers.{Answer}
-use Rattle.journal.specs.Journal.{journalReport, journalWith, toldOf, journalAfter, toldAll}
+use Rattle.journal.specs.Answers.{Answer, values}
+use Rattle.journal.specs.Journal.{bracketOf, journalReport, journalWith, toldOf, journalAfter, toldAll}
 use Rattle.journal.specs.Spelling.{SheetText}
 use Rattle.journal.specs.Reading.{ReadAs}
-use Rattle.journal.specs.Run.{Call, byValue, into, offered, callOf, reportsOf, searchAfter, journalOf, journalAt, holding, EveryRun}
+use Rattle.journal.specs.Run.{Call, byValue, into, offered, callOf, reportsOf, searchAfter, journalOf, journalAt, holding, Remembered, EveryRun}
 use Rattle.journal.specs.SpellingLaws.{reading, has-text}
-use Rattle.journal.specs.JournalLaws.{Kept, report-list, at-most-answers, fewer-answers, kept-nested, kept-opposed}
+use Rattle.journal.specs.JournalLaws.{Kept, kept-progress, report-list, at-most-answers, fewer-answers, kept-nested, kept-opposed, streak-back}
 use Rattle.journal.specs.RunLaws.{journal-fits, kept-with, call-answers, report-held, sheet-outcome, spellable-opening, spellable-journal}
 
 module _ (o : Opening) (accepted : Accepted o) where
@@ -79,6 +80,20 @@ module _ (o : Opening) (accepted : Accepted o) where
   has-sheet journal k =
       has-text o journal (spellable-opening o (opened o accepted)) (spellable-journal o (opened o accepted) journal k)
 
+  -- ---- the running number
+
+  remembered : (journal : List Answer) → Kept o journal → 2 ≤ length journal → Remembered (allowed (methodOf o)) o journal
+  remembered [] k h = absurd (omega arith)
+  remembered (a ∷ []) k h = absurd (omega arith)
+  remembered (a ∷ b ∷ rest) k h =
+      let walked = kept-progress o (a ∷ b ∷ rest) accepted k in
+      record {
+        bracket = bracketOf a b rest;
+        walked = walked;
+        streak = streak-back a b rest;
+        most = streak-allowed o accepted (values (a ∷ b ∷ rest)) (bracketOf a b rest) walked;
+      }
+
 -- ---- the claim
 
 pub run : EveryRun
@@ -92,6 +107,7 @@ run o accepted calls =
       at-most = λ i. omega (arith, at-most-answers o accepted (journalAt o calls i) (kept i));
       nested = kept-nested o (opened o accepted) (journalOf o calls) (kept-run o accepted calls);
       opposed = kept-opposed o (opened o accepted) (journalOf o calls) (kept-run o accepted calls);
+      streak = λ i. remembered o accepted (journalAt o calls i) (kept i);
       over-held = λ i. held-at o accepted (take i calls);
       over-list = λ i. report-list o accepted (journalAt o calls i) (kept i);
       over-sheet = λ i text s. sheet-report o accepted (journalAt o calls i) (kept i) text s;

@@ -3,18 +3,16 @@
 -- Assumes nothing.
 use Prim.Native.Nat.{ℕ, _+_, _-_, _*_, _/_, _^_, _≤_, _<_, zero-le}
 use mathlib.Core.Path.{_≡_, refl, sym, ap, _∙_}
-use mathlib.Core.Bool.{Bool, true, false, cond}
+use mathlib.Core.Logic.{inl, inr}
 use native.Mathlib.Nat.{le-trans, pow-suc, mul-comm, mul-assoc, mul-add, mul-one, mul-le-mul-left, mul-le-mul, div-mul-le-self}
 use native.Mathlib.Nat.{le-div-iff-mul-le, div-lt-iff-lt-mul, div-div-eq-div-mul}
 use native.Mathlib.Numerals.{add-one}
 use native.Mathlib.Omega.{arith}
-use lib.Dec.{leb}
 use lib.Pow.{pow-pos}
-use borrow.Author.Tests.{leb-true, leb-false}
 use Rattle.integers.specs.Digits.{digits, Least}
 use Rattle.integers.specs.DigitsLaws.{digits-least, digits-le, digits-half, digits-some}
 use Rattle.rules.specs.Rules.{streakOf}
-use Rattle.rules.specs.RulesLaws.{Halves}
+use Rattle.rules.specs.RulesLaws.{Halves, Rule7, streak-is}
 use Rattle.rules.specs.Search.{turnsOf}
 
 -- ---- t is the least whole number, zero or more, with τ 2 ^ (t + 1) at least W
@@ -91,26 +89,24 @@ module _ (m τ W n L s : ℕ) (tol : 1 ≤ τ) (b : Bound m τ W n L s) (going :
 
   -- a step to a narrower width, which halves at the streak m
   pub bound-step : (L' : ℕ) → L' < L → (s ≡ m → Halves L L') → Bound m τ W (n + 1) L' (streakOf L L' s)
-  unfolding streakOf
-  bound-step L' shorter forced = go (leb (2 * L') (L + 1)) refl
+  bound-step L' shorter forced = go (streak-is L L' s)
     where
-      go : (t : Bool) → leb (2 * L') (L + 1) ≡ t → Bound m τ W (n + 1) L' (cond t 0 (s + 1))
-      go true e =
-          record {
+      go : Rule7 L L' s → Bound m τ W (n + 1) L' (streakOf L L' s)
+      go (inl (half, e)) =
+          rw e
+          (record {
             streak = zero-le;
-            left =
-                omega
-                (arith, b .left, b .streak, one-more (m + 1) (turnsOf τ L') (turnsOf τ L) (turns-half τ tol L' L going (leb-true (2 * L') (L + 1) e)));
+            left = omega (arith, b .left, b .streak, one-more (m + 1) (turnsOf τ L') (turnsOf τ L) (turns-half τ tol L' L going half));
             most = omega (arith, bound-below);
-          }
-      go false e =
-          let long : L + 1 < 2 * L' = leb-false (2 * L') (L + 1) e in
+          })
+      go (inr (long, e)) =
           let low : s ≡ m → ⊥ = λ q. omega (arith, forced q) in
-          record {
+          rw e
+          (record {
             streak = omega (arith, b .streak);
             left = omega (arith, b .left, mul-le-mul-left (m + 1) (turns-le τ tol {L' = L'} {L = L} (omega arith)));
             most = omega (arith, bound-below);
-          }
+          })
 
 -- ---- over the whole range t is at most 14
 

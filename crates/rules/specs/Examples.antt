@@ -1,8 +1,9 @@
 -- Worked examples of single definitions, each by computation.
 -- Assumes nothing.
+use Prim.Native.Nat.{ℕ}
 use mathlib.Core.Path.{_≡_, refl}
 use mathlib.Core.Bool.{true}
-use mathlib.Core.List.{[], _∷_}
+use mathlib.Core.List.{List, [], _∷_, map, zipWith}
 use lib.IntN.{ℤ, pos, negℤ}
 use Rattle.integers.specs.Digits.{digits, halvings}
 use Rattle.rules.specs.declared.Opening.{Opening}
@@ -13,6 +14,7 @@ use Rattle.rules.specs.declared.Quote.{Quote}
 use Rattle.rules.specs.Rules.{methodOf, forwardOf, displacementOf, atBetter, noEstimate, linearOf, crossOf, rationalOf, streakOf}
 use Rattle.rules.specs.Refusals.{openingRefusal}
 use Rattle.rules.specs.Search.{turnsOf, quoteOf}
+use Rattle.rules.specs.Streak.{streakOver}
 use Rattle.rules.specs.Rows.{rowOf, rowNumbers, quotationOf}
 
 abbrev over : ℤ → ℤ → Fraction
@@ -82,8 +84,9 @@ rational-level : rationalOf (at (negℤ (pos 9))) (record { point = 30; value = 
 unfolding rationalOf crossOf
 rational-level = refl
 
--- ---- Rule 7: an odd bracket cut in the middle halves, whichever part is kept
+-- ---- Rule 7
 
+-- the running number: an odd bracket cut in the middle halves, whichever part is kept
 odd-smaller : streakOf 57 28 2 ≡ 0
 unfolding streakOf
 odd-smaller = refl
@@ -95,6 +98,36 @@ odd-larger = refl
 one-too-wide : streakOf 57 30 2 ≡ 3
 unfolding streakOf
 one-too-wide = refl
+
+-- by looking back: the widths of the brackets so far, and s
+record Back : Type 0 where
+  widths : List ℕ
+  s : ℕ
+
+abbrev over-widths : List ℕ → ℕ → Back
+over-widths widths s = record { widths = widths; s = s }
+
+abbrev backs : List Back
+backs =
+    -- after the second answer: no step at all
+    over-widths (100 ∷ []) 0
+    -- no step that halves: document 01's trials by M up to next 71 and by R up to next 76
+    ∷ over-widths (100 ∷ 67 ∷ 59 ∷ 57 ∷ []) 3
+    ∷ over-widths (100 ∷ 67 ∷ 60 ∷ 54 ∷ 47 ∷ []) 4
+    -- a halving step just before: the odd width 57 cut in the middle, either part; with one more it is none
+    ∷ over-widths (100 ∷ 67 ∷ 59 ∷ 57 ∷ 28 ∷ []) 0
+    ∷ over-widths (100 ∷ 67 ∷ 59 ∷ 57 ∷ 29 ∷ []) 0
+    ∷ over-widths (100 ∷ 67 ∷ 59 ∷ 57 ∷ 30 ∷ []) 4
+    -- an even width: half of it; with one more it is none
+    ∷ over-widths (100 ∷ 50 ∷ []) 0
+    ∷ over-widths (100 ∷ 51 ∷ []) 1
+    -- of two halving steps the last one counts, and is not counted itself
+    ∷ over-widths (100 ∷ 50 ∷ 40 ∷ 30 ∷ 15 ∷ 14 ∷ []) 1
+    ∷ []
+
+backs-hold : map (λ (b : Back). streakOver (b .widths)) backs ≡ map (λ (b : Back). b .s) backs
+unfolding streakOver zipWith
+backs-hold = refl
 
 -- ---- the quote
 

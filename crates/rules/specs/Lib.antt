@@ -1,10 +1,12 @@
 pub mod Rules
 pub mod Refusals
 pub mod Search
+pub mod Streak
 pub mod RulesLaws
 pub mod RefusalsLaws
 pub mod BoundLaws
 pub mod SearchLaws
+pub mod StreakLaws
 pub mod Trials
 pub mod Branches
 mod Examples

@@ -180,9 +180,13 @@ thirdOf k x b = cond (eqb (b .point) (x .point) || eqb (b .point) (k .better .po
 
 -- ---- Rule 7: the steps since the last halving step
 
--- after a step from L to the new L
+-- whether a step from L to the new L halves
+abbrev pub halves : ℕ → ℕ → Bool
+halves L new = leb (2 * new) (L + 1)
+
+-- s as a running number, after such a step. `streakOver` in Streak has it by looking back, as document 01 says it
 unfoldable pub streakOf : ℕ → ℕ → ℕ → ℕ
-streakOf L new s = cond (leb (2 * new) (L + 1)) 0 (s + 1)
+streakOf L new s = cond (halves L new) 0 (s + 1)
 
 -- the bracket with `better`, `other`, `previous` and `third` as rule 6 gives them, after the new point x
 unfoldable pub renewedOf : Bracket → Sample → Sample → Sample → Sample → Bracket

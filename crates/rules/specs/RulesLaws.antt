@@ -20,8 +20,8 @@ use Rattle.rules.specs.declared.Bracket.{Bracket}
 use Rattle.rules.specs.declared.Fraction.{Fraction}
 use Rattle.rules.specs.declared.Step.{Step}
 use Rattle.rules.specs.Rules.{toleranceAt, closer, pairOf, startOf, lowerOf, upperOf, gapOf, widthOf, Inside, stoppedOf, forwardOf}
-use Rattle.rules.specs.Rules.{displacementOf, rising, opposed, partnerOf, streakOf, renewedOf, advanceOf, allowed, stepOf, reachOf}
-use Rattle.rules.specs.Rules.{offsetOf, nextOf}
+use Rattle.rules.specs.Rules.{displacementOf, rising, opposed, partnerOf, halves, streakOf, renewedOf, advanceOf, allowed, stepOf}
+use Rattle.rules.specs.Rules.{reachOf, offsetOf, nextOf}
 
 -- ---- Rule 3: while the search goes on, D is from τ to half of L
 
@@ -171,7 +171,6 @@ pub record Advance (k : Bracket) (D : ℕ) (k' : Bracket) : Type 0 where
   pub inside : Inside k k'
   pub narrower : widthOf k' < widthOf k
   pub rest : D ≤ widthOf k / 2 → widthOf k' + D ≤ widthOf k
-  pub counted : k' .streak ≡ streakOf (widthOf k) (widthOf k') (k .streak)
 
 -- the same of the points alone: b and c are the old ends, q the partner's point
 record Cut (b c x q D : ℕ) : Type 0 where
@@ -227,7 +226,6 @@ module _ (k : Bracket) (x : Sample) (D : ℕ) (held : Straddles k) (ahead : Ahea
             inside = record { lower = c .lower; upper = c .upper };
             narrower = c .narrower;
             rest = c .rest;
-            counted = refl;
           }
       go false e =
           let p = partner-is k x held in
@@ -239,16 +237,20 @@ module _ (k : Bracket) (x : Sample) (D : ℕ) (held : Straddles k) (ahead : Ahea
             inside = record { lower = c .lower; upper = c .upper };
             narrower = c .narrower;
             rest = c .rest;
-            counted = refl;
           }
 
-pub advance-taken : (k : Bracket) (x : Sample) → advanceOf k x .taken ≡ k .taken + 1
+-- the running number and the count
+pub advance-counts : (k : Bracket) (x : Sample)
+    → (advanceOf k x .streak ≡ streakOf (widthOf k) (widthOf (advanceOf k x)) (k .streak)) × (advanceOf k x .taken ≡ k .taken + 1)
 unfolding advanceOf renewedOf
-advance-taken k x = go (closer x (partnerOf k x))
+advance-counts k x = go (closer x (partnerOf k x))
   where
-    go : (b : Bool) → cond b (renewedOf k x x (partnerOf k x) (k .better)) (renewedOf k x (partnerOf k x) x x) .taken ≡ k .taken + 1
-    go true = refl
-    go false = refl
+    next : Bool → Bracket
+    next b = cond b (renewedOf k x x (partnerOf k x) (k .better)) (renewedOf k x (partnerOf k x) x x)
+
+    go : (b : Bool) → (next b .streak ≡ streakOf (widthOf k) (widthOf (next b)) (k .streak)) × (next b .taken ≡ k .taken + 1)
+    go true = (refl, refl)
+    go false = (refl, refl)
 
 -- ---- Rule 1: the first bracket
 
@@ -295,6 +297,18 @@ start-counts x0 x1 = go (closer x1 x0)
 -- a step from L to the new L
 abbrev pub Halves : ℕ → ℕ → Type 0
 Halves L new = 2 * new ≤ L + 1
+
+-- it halves and sets the running number s back, or it does not and adds 1
+abbrev pub Rule7 : (L new s : ℕ) → Type 0
+Rule7 L new s = (Halves L new × (streakOf L new s ≡ 0)) ⊎ ((L + 1 < 2 * new) × (streakOf L new s ≡ s + 1))
+
+pub streak-is : (L new s : ℕ) → Rule7 L new s
+unfolding streakOf
+streak-is L new s = go (halves L new) refl
+  where
+    go : (b : Bool) → halves L new ≡ b → Rule7 L new s
+    go true e = inl (leb-true (2 * new) (L + 1) e, simp e)
+    go false e = inr (leb-false (2 * new) (L + 1) e, simp e)
 
 pub bisection-halves : (L new : ℕ) → new + L / 2 ≤ L → Halves L new
 bisection-halves L new h = omega arith

@@ -24,8 +24,8 @@ use Rattle.rules.specs.declared.Report.{Report}
 use Rattle.rules.specs.Rules.{highest, largestTolerance, largestValue, slots, methodOf, firstOf, secondOf, toleranceAt, closer}
 use Rattle.rules.specs.Rules.{pairOf, startOf, lowerOf, upperOf, widthOf, stoppedOf, partnerOf, thirdOf, streakOf, renewedOf}
 use Rattle.rules.specs.Rules.{advanceOf, allowed, reachOf, offsetOf, nextOf}
-use Rattle.rules.specs.RulesLaws.{Ahead, next-ahead, offset-in, going-wide, Straddles, partner-is, Advance, advance-is, advance-taken}
-use Rattle.rules.specs.RulesLaws.{start-is, start-counts, Halves, bisection-halves, forced}
+use Rattle.rules.specs.RulesLaws.{Ahead, next-ahead, offset-in, going-wide, Straddles, partner-is, Advance, advance-is, advance-counts}
+use Rattle.rules.specs.RulesLaws.{start-is, start-counts, Halves, Rule7, streak-is, bisection-halves, forced}
 use Rattle.rules.specs.Refusals.{openingRefusal, answerRefusal, tooLarge, sameSide, Accepted}
 use Rattle.rules.specs.RefusalsLaws.{Opened, opened, Passed, answer-passed, crossing-opposed}
 use Rattle.rules.specs.Search.{isRefused, beginOf, stoppedAt, sameSideAt, takenOf, enteredAt, answeredAt, offerOf, takeOf, progressOf}
@@ -85,12 +85,11 @@ limits-advance k x h l m = go (closer x (partnerOf k x)) (end-limited k l (partn
     go false p = record { better = p; other = m; previous = m; third = third-limited k x (partnerOf k x) l }
 
 streak-grows : (L new s : ℕ) → streakOf L new s ≤ s + 1
-unfolding streakOf
-streak-grows L new s = go (leb (2 * new) (L + 1))
+streak-grows L new s = go (streak-is L new s)
   where
-    go : (b : Bool) → cond b 0 (s + 1) ≤ s + 1
-    go true = omega arith
-    go false = omega arith
+    go : Rule7 L new s → streakOf L new s ≤ s + 1
+    go (inl h) = omega (arith, h .1)
+    go (inr h) = omega (arith, h .1)
 
 module _ (o : Opening) (k : Bracket) (v : ℤ) (op : Opened o) (sound : Sound o k) (going : stoppedOf o k ≡ false) where
   pub tolerance-some : 1 ≤ toleranceAt o (k .better .point)
@@ -119,15 +118,14 @@ module _ (o : Opening) (k : Bracket) (v : ℤ) (op : Opened o) (sound : Sound o 
 
   pub sound-advance : natAbs v ≤ largestValue → Sound o (advanceOf k asked)
   sound-advance h =
+      let counts = advance-counts k asked in
       record {
         held = advanced .held;
         closest = advanced .closest;
         limits = limits-advance k asked (sound .held) (sound .limits) (asked-limited h);
-        counted =
-            omega
-            (arith, advanced .counted, advance-taken k asked, streak-grows (widthOf k) (widthOf (advanceOf k asked)) (k .streak), sound .counted);
+        counted = omega (arith, counts .0, counts .1, streak-grows (widthOf k) (widthOf (advanceOf k asked)) (k .streak), sound .counted);
         bound =
-            rw (advanced .counted, advance-taken k asked)
+            rw (counts .0, counts .1)
             (bound-step _ _ _ _ _ _
             (op .tolerance .least)
             (sound .bound)
@@ -218,7 +216,7 @@ counted-offer o n (Progress.First u) other v e =
     settled o (Progress.First u) other v (CountedAt (n + 1)) (λ q. omega (arith, start-counts (begins o u v) (ends o u v) .1)) (omega arith)
 counted-offer o n (Progress.Bracketed k) other v e =
     settled o (Progress.Bracketed k) other v (CountedAt (n + 1))
-    (λ q. omega (arith, advance-taken k (record { point = nextOf o k; value = v }))) (omega arith)
+    (λ q. omega (arith, advance-counts k (record { point = nextOf o k; value = v }) .1)) (omega arith)
 counted-offer o n (Progress.Refused m i) other v e = omega arith
 
 pub sound-begin : (o : Opening) → SoundAt o (beginOf o)

@@ -9,13 +9,19 @@ use Rattle.brackets.proofs.start.Tie as tie
 closer-requires : tie.Need-closer-requires
 closer-requires c κs = search needs
 
+pair-requires : tie.Need-pair-requires
+pair-requires c κs = search needs
+
 returns : tie.Need-returns
 unfolding startOf
-returns c = simp (sym (c .before .closer .ensures) ∙ c .if1 .taken)
+returns c = c .pair .ensures ∙ simp (sym (c .before .before .closer .ensures) ∙ c .before .if1 .taken)
+
+pair-requires-2 : tie.Need-pair-requires-2
+pair-requires-2 c κs = search needs
 
 returns-2 : tie.Need-returns-2
 unfolding startOf
-returns-2 c = simp (sym (c .before .closer .ensures) ∙ c .if1 .left)
+returns-2 c = c .pair2 .ensures ∙ simp (sym (c .before .before .closer .ensures) ∙ c .before .if1 .left)
 
 pub start-spec : {M : Type 1} → statement M
-start-spec = tie.close (tie.spec closer-requires returns returns-2)
+start-spec = tie.close (tie.spec closer-requires pair-requires pair-requires-2 returns returns-2)
