@@ -11,6 +11,11 @@ use std::time::Instant;
 const SEED: u64 = 1975;
 const REPETITIONS: usize = 101;
 
+/// The states that the beam keeps on its way to long searches, and how many of those it finds are
+/// timed for each method.
+const WIDE: usize = 1_500;
+const LONG: usize = 150;
+
 /// One search that was answered up to its stop, in every form in which it is to be handed over.
 struct Work {
     opening: Opening,
@@ -67,11 +72,15 @@ const PLAIN: Calls = Calls {
     write: plain::write,
 };
 
+/// A search, and an answer offered to it: its point and its value.
+type Offer = (Search, (i32, i32));
+
 /// An operation over all works: it gives the nanoseconds that it took.
 type Timed<'a> = &'a dyn Fn(Calls, &[Work]) -> f64;
 
-/// How many answers a search holds where the growth of an answer's cost is looked at.
-const BEFORE: [usize; 5] = [0, 10, 20, 30, 40];
+/// How many answers a search holds where the growth of an answer's cost is looked at. We know of no
+/// search that takes a 61st: the long ones by R have stopped by then, and the answer is refused.
+const BEFORE: [usize; 5] = [2, 10, 20, 40, 60];
 
 fn main() {
     println!("bench: seed {SEED}; what answers is {}", ffi::WHO);
@@ -81,11 +90,16 @@ fn main() {
         "An answer is entered into a search that holds the ones before it, each walked again."
     );
     let mut rng = Rng::new(SEED);
-    println!("\noperation                            library ns    plain ns  library/plain");
-    table("usual", &usual(&mut rng));
+    println!("\noperation                               library ns    plain ns  library/plain");
+    let usual = usual(&mut rng);
+    table("usual", &usual);
     let long = long(&mut rng);
     table("long", &long);
-    growth(&long);
+    println!("an answer into the host's search, by the answers that it holds already:");
+    let (by_m, by_r) = long.split_at(long.partition_point(|work| work.opening.method == 1));
+    growth("usual", &usual);
+    growth("long by M", by_m);
+    growth("long by R", by_r);
 }
 
 /// Searches as ovens of every kind answer them.
@@ -99,9 +113,9 @@ fn long(rng: &mut Rng) -> Vec<Work> {
     let mut works = Vec::new();
     for method in [1, 2] {
         let opening = Opening::new(method, 0, 20_000, 1);
-        for order in beam::longest(&opening, 150, rng) {
-            works.push(Work::new(&model::Book::of(opening, &order)));
-        }
+        let orders = beam::longest(&opening, WIDE, rng);
+        let one = |order: &Vec<i32>| Work::new(&model::Book::of(opening, order));
+        works.extend(orders.iter().take(LONG).map(one));
     }
     works
 }
@@ -125,15 +139,32 @@ fn table(kind: &str, works: &[Work]) {
 }
 
 /// How the cost of an answer, entered into the host's search, grows with the answers before it.
-fn growth(works: &[Work]) {
-    println!("the long searches, by the answers that they hold already:");
+fn growth(name: &str, works: &[Work]) {
     for before in BEFORE {
-        let longer = works.iter().filter(|work| work.values.len() > before);
-        let name = format!("  an answer after {before} others");
-        line(&name, works, longer.count(), &|calls, works| {
-            entering_after(before, calls, works)
-        });
+        let name = format!("  {name}, after {before} others");
+        let (offers, end) = match after(before, works) {
+            (going, _) if !going.is_empty() => (going, ""),
+            (_, stopped) => (stopped, ", refused"),
+        };
+        if offers.is_empty() {
+            println!("{name:<38} no search here holds so many");
+        } else {
+            let timed = |calls, _: &[Work]| offering(calls, offers.clone());
+            line(&(name + end), works, offers.len(), &timed);
+        }
     }
+}
+
+/// The searches that hold so many answers: those that go on, each with the answer that follows, and
+/// those that have stopped, each with its last answer once more.
+fn after(before: usize, works: &[Work]) -> (Vec<Offer>, Vec<Offer>) {
+    let holding = works.iter().filter(|work| work.values.len() >= before);
+    let (going, stopped): (Vec<&Work>, Vec<&Work>) =
+        holding.partition(|work| work.values.len() > before);
+    let offer = |next: usize| move |work: &&Work| (work.holding(before), work.answers[next]);
+    let follows = going.iter().map(offer(before)).collect();
+    let again = stopped.iter().map(offer(before - 1)).collect();
+    (follows, again)
 }
 
 /// One line: the medians of both, by turns, for so many operations.
@@ -146,7 +177,7 @@ fn line(name: &str, works: &[Work], operations: usize, timed: Timed) {
     }
     let (library, plain) = (median(library), median(plain));
     let ratio = library / plain;
-    println!("{name:<35} {library:>11.1} {plain:>11.1} {ratio:>14.2}");
+    println!("{name:<38} {library:>11.1} {plain:>11.1} {ratio:>14.2}");
 }
 
 fn median(mut list: Vec<f64>) -> f64 {
@@ -169,12 +200,8 @@ fn entering(calls: Calls, works: &[Work]) -> f64 {
     time.as_nanos() as f64
 }
 
-/// The answer that follows so many others, entered into the host's own search.
-fn entering_after(before: usize, calls: Calls, works: &[Work]) -> f64 {
-    let longer = works.iter().filter(|work| work.values.len() > before);
-    let mut offers: Vec<(Search, (i32, i32))> = longer
-        .map(|work| (work.holding(before), work.answers[before]))
-        .collect();
+/// Each answer entered into its search, the host's own.
+fn offering(calls: Calls, mut offers: Vec<Offer>) -> f64 {
     let start = Instant::now();
     for (search, (point, value)) in &mut offers {
         black_box((calls.enter)(search, black_box(*point), black_box(*value)));

@@ -4,7 +4,7 @@
 use Prim.Native.Nat.{ℕ, _≤_, _<_}
 use mathlib.Core.Path.{_≡_, refl, sym, ap, subst, _∙_}
 use mathlib.Core.Logic.{inl, inr}
-use mathlib.Core.List.{List, [], _∷_, _++_, map}
+use mathlib.Core.List.{List, [], _∷_, _++_, map, zipWith}
 use native.Mathlib.Omega.{arith}
 use lib.IntN.{ℤ, pos}
 use lib.ListN.{length, take}
@@ -13,10 +13,11 @@ use Rattle.rules.specs.declared.Opening.{Opening}
 use Rattle.rules.specs.declared.Bracket.{Bracket}
 use Rattle.rules.specs.declared.Report.{Report}
 use Rattle.rules.specs.declared.Report.the-variants.{Next, Stop, Refused}
-use Rattle.rules.specs.Rules.{padded, methodOf, toleranceAt, startOf, lowerOf, upperOf, stoppedOf, forwardOf, displacementOf, linearOf, crossOf}
+use Rattle.rules.specs.Rules.{padded, methodOf, toleranceAt, startOf, lowerOf, upperOf, widthOf, stoppedOf, forwardOf, displacementOf, linearOf, crossOf}
 use Rattle.rules.specs.Rules.{rationalOf, doubledOf, opposed, partnerOf, streakOf, renewedOf, advanceOf, stepOf, reachOf, offsetOf, nextOf}
 use Rattle.rules.specs.Refusals.{openingRefusal, answerRefusal, sameSide}
 use Rattle.rules.specs.Search.{turnsOf, mostOf, beginOf, offerOf, takeOf, progressOf, bracketReport, reportAt}
+use Rattle.rules.specs.Streak.{streakOver}
 use Rattle.held.specs.Held.{freshOf, standingOf, heldReport, enterOf}
 use Rattle.forms.specs.declared.Number.{Number}
 use Rattle.forms.specs.Number.{allDigits, valueFrom, signedOf, numberOf}
@@ -79,6 +80,9 @@ record WorkedRun : Type 0 where
   told : toldAll upTo100 [] (map offered calls) ≡ reports
   journal : journalOf upTo100 calls ≡ entries
   brackets : map endsOf (bracketsOf entries) ≡ ends
+  -- the running number after each of them, and s by looking back from each of them
+  running : map (λ (k : Bracket). k .streak) (bracketsOf entries) ≡ 0 ∷ 1 ∷ 2 ∷ 0 ∷ []
+  back : map (λ (n : ℕ). streakOver (map widthOf (bracketsOf (take n entries)))) (2 ∷ 3 ∷ 4 ∷ 5 ∷ []) ≡ 0 ∷ 1 ∷ 2 ∷ 0 ∷ []
   -- what the calls answer, the search's own report after the three refusals, and what the search holds in the end
   answered : reportsOf (freshOf upTo100) calls ≡ reports
   own : heldReport (searchAfter (freshOf upTo100) (take 4 calls)) ≡ Next 100 1
@@ -94,8 +98,8 @@ unfolding stopOf pointCalled journalReport refusalOf journalWith toldOf journalA
     standingOf heldReport enterOf
     methodOf toleranceAt startOf stoppedOf forwardOf displacementOf linearOf crossOf rationalOf doubledOf opposed partnerOf streakOf renewedOf
     advanceOf stepOf reachOf offsetOf nextOf openingRefusal answerRefusal sameSide
-    beginOf offerOf takeOf progressOf bracketReport reportAt
-worked-run = record { told = refl; journal = refl; brackets = refl; answered = refl; own = refl; search = refl }
+    beginOf offerOf takeOf progressOf bracketReport reportAt streakOver zipWith
+worked-run = record { told = refl; journal = refl; brackets = refl; running = refl; back = refl; answered = refl; own = refl; search = refl }
 
 -- ---- the bound is reached: by M from 0 to 2 with τ 1, t is 0, two answers may be needed, and with the second the search stops
 

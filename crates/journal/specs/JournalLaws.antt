@@ -4,28 +4,24 @@
 use Prim.Native.Nat.{ℕ, _≤_, _<_}
 use mathlib.Core.Path.{_≡_, refl, sym, ap, ap₂, subst, subst₂, _∙_}
 use mathlib.Core.Bool.{Bool, true, false, cond, not}
-use mathlib.Core.List.{List, [], _∷_, _++_, map, foldl}
+use mathlib.Core.List.{List, [], _∷_, _++_, foldl}
 use native.Mathlib.Omega.{arith}
 use borrow.Author.Tests.{eqb-true, eq-eqb, ltb-false, le-ltb}
 use lib.Dec.{ltb}
 use lib.IntN.{ℤ, pos, natAbs}
 use lib.ListN.{length, length-map}
-use lib.Seq.{append-snoc}
 use Rattle.integers.specs.Signs.{eqZ}
 use Rattle.integers.specs.SignsLaws.{eqZ-true, never}
 use Rattle.rules.specs.declared.Opening.{Opening}
 use Rattle.rules.specs.declared.Sample.{Sample}
 use Rattle.rules.specs.declared.Bracket.{Bracket}
 use Rattle.rules.specs.declared.Progress.{Progress}
-use Rattle.rules.specs.Rules.{largestValue, firstOf, secondOf, startOf, widthOf, Inside, stoppedOf, streakOf, nextOf, advanceOf}
-use Rattle.rules.specs.RulesLaws.{advance-counts, start-counts}
+use Rattle.rules.specs.Rules.{largestValue, firstOf, secondOf, startOf, Inside, stoppedOf, nextOf, advanceOf}
 use Rattle.rules.specs.Refusals.{hadStopped, notCalledFor, valueOutOfRange, sameSign, openingRefusal, answerRefusal, tooLarge, sameSide, Accepted}
 use Rattle.rules.specs.RefusalsLaws.{Opened, opposed-crossing}
 use Rattle.rules.specs.Search.{isRefused, beginOf, stoppedAt, sameSideAt, otherAt, enteredAt, offerOf, takeOf, progressOf, bracketReport}
 use Rattle.rules.specs.Search.{reportAt, reportOf, mostOf}
 use Rattle.rules.specs.SearchLaws.{Sound, sound-start, sound-advance, advanced, counts, at-most, before-stop}
-use Rattle.rules.specs.Streak.{streakOver}
-use Rattle.rules.specs.StreakLaws.{streak-first, streak-more}
 use Rattle.journal.specs.Answers.{Answer, answerValue, values}
 use Rattle.journal.specs.Journal.{sampleOf, advancedBy, bracketOf, stopOf, pointCalled, reportWith, journalReport, oneSide, refusalOf}
 use Rattle.journal.specs.Journal.{takes, bracketsFrom, bracketsOf, Nested, Opposed}
@@ -252,7 +248,8 @@ module _ (o : Opening) (op : Opened o) where
   onward-opposed k (a ∷ rest) s w =
       (opposed-crossing _ _ (s .held .opposite), onward-opposed (advanceOf k (sampleOf a)) rest (step-sound k a s (w .0)) (w .1))
 
-  pub start-sound : (a b : Answer) → At (firstOf o) a → At (secondOf o) b → sameSide (a .value) (b .value) ≡ false → Sound o (startOf (sampleOf a) (sampleOf b))
+  pub start-sound : (a b : Answer) → At (firstOf o) a → At (secondOf o) b → sameSide (a .value) (b .value) ≡ false
+      → Sound o (startOf (sampleOf a) (sampleOf b))
   start-sound a b p q d =
       subst₂ (λ (s t : Sample). Sound o (startOf s t)) (sym (sample-is a (firstOf o) (p .called))) (sym (sample-is b (secondOf o) (q .called)))
       (sound-start o (a .value) (b .value) op (p .ranged) (q .ranged) d)
@@ -268,25 +265,3 @@ module _ (o : Opening) (op : Opened o) where
   kept-opposed [] k = tt
   kept-opposed (a ∷ []) k = tt
   kept-opposed (a ∷ b ∷ rest) k = onward-opposed (startOf (sampleOf a) (sampleOf b)) rest (start-sound a b (k .0) (k .1) (k .2)) (k .3)
-
--- ---- the running number
-
--- it goes on as rule 7's s, after the brackets of other widths
-streak-from : (ws : List ℕ) (k : Bracket) (rest : List Answer) → k .streak ≡ streakOver (ws ++ (widthOf k ∷ []))
-    → advancedBy k rest .streak ≡ streakOver (ws ++ map widthOf (bracketsFrom k rest))
-streak-from ws k [] e = e
-streak-from ws k (a ∷ rest) e =
-    let k' = advanceOf k (sampleOf a) in
-    let e' : k' .streak ≡ streakOver (ws ++ (widthOf k ∷ []) ++ (widthOf k' ∷ [])) =
-    advance-counts k (sampleOf a) .0
-    ∙ ap (streakOf (widthOf k) (widthOf k')) e
-    ∙ sym (streak-more ws (widthOf k) (widthOf k'))
-    ∙ ap streakOver (sym (append-snoc ws (widthOf k) (widthOf k' ∷ []))) in
-    streak-from (ws ++ (widthOf k ∷ [])) k' rest e'
-    ∙ ap streakOver (append-snoc ws (widthOf k) (map widthOf (bracketsFrom k' rest)))
-
-pub streak-back : (a b : Answer) (rest : List Answer) → bracketOf a b rest .streak ≡ streakOver (map widthOf (bracketsOf (a ∷ b ∷ rest)))
-unfolding bracketsOf
-streak-back a b rest =
-    let k = startOf (sampleOf a) (sampleOf b) in
-    streak-from [] k rest (start-counts (sampleOf a) (sampleOf b) .0 ∙ sym (streak-first (widthOf k)))

@@ -7,6 +7,7 @@ pub mod Reading
 pub mod Run
 mod Examples
 pub mod JournalLaws
+pub mod StreakLaws
 pub mod SpellingLaws
 pub mod CleanLaws
 pub mod RunLaws

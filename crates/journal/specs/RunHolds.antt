@@ -24,7 +24,8 @@ use Rattle.journal.specs.Spelling.{SheetText}
 use Rattle.journal.specs.Reading.{ReadAs}
 use Rattle.journal.specs.Run.{Call, byValue, into, offered, callOf, reportsOf, searchAfter, journalOf, journalAt, holding, Remembered, EveryRun}
 use Rattle.journal.specs.SpellingLaws.{reading, has-text}
-use Rattle.journal.specs.JournalLaws.{Kept, kept-progress, report-list, at-most-answers, fewer-answers, kept-nested, kept-opposed, streak-back}
+use Rattle.journal.specs.JournalLaws.{Kept, kept-progress, report-list, at-most-answers, fewer-answers, kept-nested, kept-opposed}
+use Rattle.journal.specs.StreakLaws.{streak-back}
 use Rattle.journal.specs.RunLaws.{journal-fits, kept-with, call-answers, report-held, sheet-outcome, spellable-opening, spellable-journal}
 
 module _ (o : Opening) (accepted : Accepted o) where

@@ -50,7 +50,8 @@ module _ {M : Type 1} {𝓤 : URA M} {H : Heap 𝓤} {A : Atoms 𝓤} {K : Type 
   at-place t {i} {q} {τ} {n} {b} {o} us {back} k d l h p = record {
     out = qed W (i ∷ []) ∵ use1 W (‵ (fat q (tyArray τ n) b o (vstruct (ofList us))) ⊛ raw (all 𝓤 Entry)) (p .out) $ split ! $
         use1 W (raw (elems 𝓤 H q τ b o us)) (W .laws .at-elems q τ n b o us) $
-        use1 W (‵ (fat q τ b (place (size τ) o k) (getD us k d)) ⊛ raw (all 𝓤 (Back 𝓤 H A W q τ b us k o))) (out 𝓤 H A W q τ b us k d o h) $ split ! $ frame ! $
+        use1 W (‵ (fat q τ b (place (size τ) o k) (getD us k d)) ⊛ raw (all 𝓤 (Back 𝓤 H A W q τ b us k o))) (out 𝓤 H A W q τ b us k d o h) $
+        split ! $ frame ! $
         each ! (λ (u : Val). wand 𝓤 (H .at q τ b (place (size τ) o k) u) (mean 𝓤 H A (back (vstruct (ofList (set us k u)))))) (λ u.
         assume {P = mean 𝓤 H A (back (vstruct (ofList (set us k u))))} ! (‵ (fat q τ b (place (size τ) o k) u)) $
         -- [the element's cell; the way back to the row; the way back to the entry]

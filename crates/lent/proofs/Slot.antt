@@ -311,7 +311,8 @@ module _ (R : Plain) (E : Verdicts R) (L : VerdictLaws E) where
               -- the cell is that of the search with both stored, and the borrow is closed at it
               rewrite ! 1 (λ (ws : List Val). ‵ (cellAt fullShare (row search .mir) (with-slots h (E .count r) ws ∷ []) b o))
               (stored-values h (E .at r) (E .value r)) refl $
-              drop ! $ put-back search ! tt (stored E h r) (is-stored h (E .count r) (E .at r) (E .value r) was (L .is-count r _ is) (L .is-value r _ is)) b o $
+              drop ! $
+              put-back search ! tt (stored E h r) (is-stored h (E .count r) (E .at r) (E .value r) was (L .is-count r _ is) (L .is-value r _ is)) b o $
               -- [obs; the borrow; the token; true; what the numbers own; _9 (5); …; _0 (23); …]
               returns ! (look ! 23 refl) $ forget ! 5 refl $ forget ! 7 refl $ forget ! 9 refl $ forget ! 11 refl $ forget ! 13 refl $
               forget ! 15 refl $ forget ! 17 refl $ forget ! 19 refl $ forget ! 21 refl $ forget ! 23 refl $

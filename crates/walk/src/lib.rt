@@ -37,7 +37,8 @@ fn stop_report(k: Bracket) -> Report
     }
 }
 
-// The report on the answers, of which two have led to a bracket.
+// The report on the answers, of which two have led to a bracket. The bracket is all that is kept from answer to answer: its `streak` is
+// the s of rule 7 as a running number, and no earlier bracket is looked at.
 fn walk_on(o: Opening, bracket: Bracket, values: &[i32], points: &[i32], tail: &[i32]) -> Report
     requires { ⌜ (length (now points) ≡ length (now tail)) × Led o (now values) (now points) (now tail) 2 (Bracketed bracket) ⌝ }
     ensures { λ r. ⌜ r ≡ reportAt o (answersOf o (progressOf o (now (values .entry))) (now (points .entry)) (now (tail .entry))) ⌝ }

@@ -67,7 +67,10 @@ returns-2 c =
     let t = c .before in
     let p = t .before .before .before .before .before .before .before in
     let e = start-of t .args .t1 in
-    c .settle .ensures ∙ ap (settledBy e) (told-is t) ∙ settled-is e (leadsTo e) ∙ outcome-accepted e (sym (p .before .opening-refusal .ensures) ∙ p .if1 .left)
+    c .settle .ensures
+    ∙ ap (settledBy e) (told-is t)
+    ∙ settled-is e (leadsTo e)
+    ∙ outcome-accepted e (sym (p .before .opening-refusal .ensures) ∙ p .if1 .left)
 
 pub outcome-spec : {M : Type 1} → statement M
 outcome-spec =

@@ -1,5 +1,5 @@
--- `walk::walk_on` meets its contract. The loop's invariant: where all the answers lead is where those that are left lead from this
--- bracket.
+-- `walk::walk_on` meets its contract. The loop's invariant: this bracket, with its running number, is that of the search over the values
+-- taken so far; and where all the answers lead is where those that are left lead from it.
 -- Assumes nothing.
 use Prim.Native.Nat.{ℕ, _+_, _-_, _<_}
 use mathlib.Core.Path.{_≡_, refl, sym, ap, ap₂, subst, _∙_}
