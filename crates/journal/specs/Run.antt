@@ -1,6 +1,6 @@
 -- The claim about whole runs, demand 3: for every accepted opening and every list of calls, of any length, by value or into the
--- host's own search in any mixture, one record whose fields are the demand's clauses. Nothing is proved here: `run` in RunHolds is the
--- proof.
+-- host's own search in any mixture, one record whose fields are the demand's clauses, and what request 2026-03 says of s. Nothing is
+-- proved here: `run` in RunHolds is the proof.
 -- Assumes nothing.
 use Prim.Native.Nat.{ℕ, _+_, _*_, _^_, _≤_, _<_}
 use mathlib.Core.Path.{_≡_}
@@ -64,8 +64,10 @@ journalAt o calls i = journalOf o (take i calls)
 abbrev pub holding : Opening → List Answer → Search
 holding o journal = record { opening = o; count = length journal; slots = padded (values journal) }
 
--- where a search over a journal's values has come to by its running number: it has a bracket, and the number kept there is rule 7's s, by
--- looking back over the widths of the journal's brackets, and at most m
+-- ---- the running number
+
+-- the search over a journal's values has come to a bracket, and the running number that it keeps there is rule 7's s, by looking back over
+-- the widths of the journal's brackets, and at most m
 pub record Remembered (m : ℕ) (o : Opening) (journal : List Answer) : Type 0 where
   pub bracket : Bracket
   pub walked : progressOf o (values journal) ≡ Progress.Bracketed bracket
@@ -87,7 +89,7 @@ pub record Run (o : Opening) (calls : List Call) : Type 0 where
   pub nested : Nested (bracketsOf (journalOf o calls))
   -- and its two values are never both above or both below target
   pub opposed : Opposed (bracketsOf (journalOf o calls))
-  -- at every place from the second accepted answer on: the running number with which the values are walked is rule 7's s, and at most m
+  -- at every place from the second accepted answer on: the running number is rule 7's s, and at most m
   pub streak : (i : ℕ) → 2 ≤ length (journalAt o calls i) → Remembered (allowed (methodOf o)) o (journalAt o calls i)
   -- at every place: the held search's own report is the journal's
   pub over-held : (i : ℕ) → heldReport (searchAfter (freshOf o) (take i calls)) ≡ journalReport o (journalAt o calls i)

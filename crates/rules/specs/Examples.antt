@@ -104,25 +104,25 @@ record Back : Type 0 where
   widths : List ℕ
   s : ℕ
 
-abbrev over-widths : List ℕ → ℕ → Back
-over-widths widths s = record { widths = widths; s = s }
+abbrev back : List ℕ → ℕ → Back
+back widths s = record { widths = widths; s = s }
 
 abbrev backs : List Back
 backs =
     -- after the second answer: no step at all
-    over-widths (100 ∷ []) 0
+    back (100 ∷ []) 0
     -- no step that halves: document 01's trials by M up to next 71 and by R up to next 76
-    ∷ over-widths (100 ∷ 67 ∷ 59 ∷ 57 ∷ []) 3
-    ∷ over-widths (100 ∷ 67 ∷ 60 ∷ 54 ∷ 47 ∷ []) 4
+    ∷ back (100 ∷ 67 ∷ 59 ∷ 57 ∷ []) 3
+    ∷ back (100 ∷ 67 ∷ 60 ∷ 54 ∷ 47 ∷ []) 4
     -- a halving step just before: the odd width 57 cut in the middle, either part; with one more it is none
-    ∷ over-widths (100 ∷ 67 ∷ 59 ∷ 57 ∷ 28 ∷ []) 0
-    ∷ over-widths (100 ∷ 67 ∷ 59 ∷ 57 ∷ 29 ∷ []) 0
-    ∷ over-widths (100 ∷ 67 ∷ 59 ∷ 57 ∷ 30 ∷ []) 4
+    ∷ back (100 ∷ 67 ∷ 59 ∷ 57 ∷ 28 ∷ []) 0
+    ∷ back (100 ∷ 67 ∷ 59 ∷ 57 ∷ 29 ∷ []) 0
+    ∷ back (100 ∷ 67 ∷ 59 ∷ 57 ∷ 30 ∷ []) 4
     -- an even width: half of it; with one more it is none
-    ∷ over-widths (100 ∷ 50 ∷ []) 0
-    ∷ over-widths (100 ∷ 51 ∷ []) 1
+    ∷ back (100 ∷ 50 ∷ []) 0
+    ∷ back (100 ∷ 51 ∷ []) 1
     -- of two halving steps the last one counts, and is not counted itself
-    ∷ over-widths (100 ∷ 50 ∷ 40 ∷ 30 ∷ 15 ∷ 14 ∷ []) 1
+    ∷ back (100 ∷ 50 ∷ 40 ∷ 30 ∷ 15 ∷ 14 ∷ []) 1
     ∷ []
 
 backs-hold : map (λ (b : Back). streakOver (b .widths)) backs ≡ map (λ (b : Back). b .s) backs
