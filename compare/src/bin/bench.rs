@@ -11,6 +11,11 @@ use std::time::Instant;
 const SEED: u64 = 1975;
 const REPETITIONS: usize = 101;
 
+/// How many usual searches are timed, and how many by the answers that they hold: so many that the
+/// processor cannot learn them by heart.
+const USUAL: usize = 1_000;
+const MANY: usize = 20_000;
+
 /// The states that the beam keeps on its way to long searches, and how many of those it finds are
 /// timed for each method.
 const WIDE: usize = 1_500;
@@ -90,22 +95,21 @@ fn main() {
         "An answer is entered into a search that holds the ones before it, each walked again."
     );
     let mut rng = Rng::new(SEED);
-    println!("\noperation                               library ns    plain ns  library/plain");
-    let usual = usual(&mut rng);
-    table("usual", &usual);
+    println!("\noperation                                   library ns    plain ns  library/plain");
+    table("usual", &usual(USUAL, &mut rng));
     let long = long(&mut rng);
     table("long", &long);
     println!("an answer into the host's search, by the answers that it holds already:");
     let (by_m, by_r) = long.split_at(long.partition_point(|work| work.opening.method == 1));
-    growth("usual", &usual);
+    growth("usual", &usual(MANY, &mut rng));
     growth("long by M", by_m);
     growth("long by R", by_r);
 }
 
 /// Searches as ovens of every kind answer them.
-fn usual(rng: &mut Rng) -> Vec<Work> {
+fn usual(count: usize, rng: &mut Rng) -> Vec<Work> {
     let one = |_| Work::new(&cases::answered(cases::accepted_opening(rng), rng));
-    (0..1_000).map(one).collect()
+    (0..count).map(one).collect()
 }
 
 /// The longest searches that the beam finds from 0 to 20,000 at τ = 1, by M and by R.
@@ -141,16 +145,15 @@ fn table(kind: &str, works: &[Work]) {
 /// How the cost of an answer, entered into the host's search, grows with the answers before it.
 fn growth(name: &str, works: &[Work]) {
     for before in BEFORE {
-        let name = format!("  {name}, after {before} others");
         let (offers, end) = match after(before, works) {
             (going, _) if !going.is_empty() => (going, ""),
             (_, stopped) => (stopped, ", refused"),
         };
-        if offers.is_empty() {
-            println!("{name:<38} no search here holds so many");
-        } else {
+        let count = offers.len();
+        if count > 0 {
+            let name = format!("  {count} {name}, after {before} others{end}");
             let timed = |calls, _: &[Work]| offering(calls, offers.clone());
-            line(&(name + end), works, offers.len(), &timed);
+            line(&name, works, count, &timed);
         }
     }
 }
@@ -177,7 +180,7 @@ fn line(name: &str, works: &[Work], operations: usize, timed: Timed) {
     }
     let (library, plain) = (median(library), median(plain));
     let ratio = library / plain;
-    println!("{name:<38} {library:>11.1} {plain:>11.1} {ratio:>14.2}");
+    println!("{name:<42} {library:>11.1} {plain:>11.1} {ratio:>14.2}");
 }
 
 fn median(mut list: Vec<f64>) -> f64 {
