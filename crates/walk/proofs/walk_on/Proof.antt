@@ -4,10 +4,11 @@
 use Prim.Native.Nat.{ℕ, _+_, _-_, _<_}
 use mathlib.Core.Path.{_≡_, refl, sym, ap, ap₂, subst, _∙_}
 use mathlib.Core.Bool.{Bool, false}
+use mathlib.Core.List.{_++_}
 use borrow.Author.Needs.{needs}
 use native.Mathlib.Omega.{arith}
 use lib.IntN.{ℤ}
-use lib.ListN.{length}
+use lib.ListN.{length, take}
 use mir.Syntax.{w32}
 use mir.Val.{SFits, toZ, ofZ}
 use Rattle.integers.specs.Bounds.{read}
@@ -15,6 +16,7 @@ use Rattle.rules.specs.declared.Bracket.{Bracket}
 use Rattle.rules.specs.declared.Progress.{Progress}
 use Rattle.rules.specs.Rules.{stoppedOf, nextOf, advanceOf}
 use Rattle.rules.specs.Refusals.{answerRefusal, tooLarge}
+use Rattle.rules.specs.Search.{progressOf}
 use Rattle.brackets.specs.CountableLaws.{countable}
 use Rattle.answers.specs.Answers.{otherThan, otherFrom, Led}
 use Rattle.answers.specs.AnswersLaws.{other-going, led-not, led-entered, told-refused, told-late, told-stop, told-next}
@@ -26,6 +28,11 @@ Inv-loop o values points tail free total k₀ i₀ k i = Led o values points tai
 
 abbrev μ-loop : tie.MeasureT-loop
 μ-loop o values points tail free total k₀ i₀ k i = length values + length tail - i
+
+-- so at every round the code's bracket, and with it its running number, is the one of which `Run.streak` speaks
+kept : (l : tie.At-loop Inv-loop μ-loop)
+    → progressOf (l .before .args .o) (take (l .loop .i) (l .before .args .values .now ++ l .before .args .tail .now)) ≡ Progress.Bracketed (l .loop .k)
+kept l = l .loop .inv .reached refl
 
 going : (c : tie.Else1 Inv-loop μ-loop) → stoppedOf (c .before .before .before .args .o) (c .before .before .loop .k) ≡ false
 going c = sym (c .before .stopped .ensures) ∙ c .if1 .left
