@@ -2,13 +2,12 @@
 -- Assumes nothing.
 use Prim.Native.Nat.{ℕ}
 use mathlib.Core.Path.{_≡_, refl, sym, ap, _∙_}
-use mathlib.Core.Bool.{Bool, true, false, cond}
 use mathlib.Core.List.{List, [], _∷_, _++_, map}
 use lib.Seq.{append-snoc}
 use Rattle.rules.specs.declared.Sample.{Sample}
 use Rattle.rules.specs.declared.Bracket.{Bracket}
-use Rattle.rules.specs.Rules.{closer, startOf, widthOf, partnerOf, streakOf, renewedOf, advanceOf}
-use Rattle.rules.specs.RulesLaws.{advance-counts, start-counts}
+use Rattle.rules.specs.Rules.{startOf, widthOf, partnerOf, streakOf, renewedOf, advanceOf}
+use Rattle.rules.specs.RulesLaws.{advance-by, advance-counts, start-counts}
 use Rattle.rules.specs.Streak.{streakOver}
 use Rattle.rules.specs.StreakLaws.{streak-first, streak-more}
 use Rattle.journal.specs.Answers.{Answer}
@@ -51,14 +50,8 @@ keeping s k =
 advance-keeping : (s : ℕ) (k : Bracket) (x : Sample)
     → advanceOf (keeping s k) x ≡ keeping (streakOf (widthOf k) (widthOf (advanceOf k x)) s) (advanceOf k x)
 unfolding advanceOf renewedOf partnerOf
-advance-keeping s k x = go (closer x (partnerOf k x))
-  where
-    next : ℕ → Bool → Bracket
-    next s b = let j = keeping s k in cond b (renewedOf j x x (partnerOf j x) (k .better)) (renewedOf j x (partnerOf j x) x x)
-
-    go : (b : Bool) → next s b ≡ keeping (streakOf (widthOf k) (widthOf (next (k .streak) b)) s) (next (k .streak) b)
-    go true = refl
-    go false = refl
+advance-keeping s k x =
+    advance-by (λ k'. advanceOf (keeping s k) x ≡ keeping (streakOf (widthOf k) (widthOf k') s) k') k x (λ e. simp e) (λ e. simp e)
 
 pub widths-keeping : (s : ℕ) (k : Bracket) (rest : List Answer) → map widthOf (bracketsFrom (keeping s k) rest) ≡ map widthOf (bracketsFrom k rest)
 widths-keeping s k [] = refl

@@ -2,7 +2,7 @@
 -- halvings that suffice, and each step leaves less of (m + 1) t, with the streak counted in.
 -- Assumes nothing.
 use Prim.Native.Nat.{ℕ, _+_, _-_, _*_, _/_, _^_, _≤_, _<_, zero-le}
-use mathlib.Core.Path.{_≡_, refl, sym, ap, _∙_}
+use mathlib.Core.Path.{_≡_, sym, ap, _∙_}
 use mathlib.Core.Logic.{inl, inr}
 use native.Mathlib.Nat.{le-trans, pow-suc, mul-comm, mul-assoc, mul-add, mul-one, mul-le-mul-left, mul-le-mul, div-mul-le-self}
 use native.Mathlib.Nat.{le-div-iff-mul-le, div-lt-iff-lt-mul, div-div-eq-div-mul}

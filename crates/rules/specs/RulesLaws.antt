@@ -7,7 +7,7 @@ use mathlib.Core.Logic.{_⊎_, inl, inr, ⊎-map}
 use native.Mathlib.Nat.{le-trans, le-of-eq, le-of-lt, mul-assoc, le-of-mul-le-mul-right, div-mul-le-self, mul-le-mul-left}
 use native.Mathlib.Nat.{le-div-iff-mul-le}
 use native.Mathlib.Omega.{arith}
-use borrow.Author.Tests.{leb-true, leb-false, ltb-true, ne-eqb, eq-eqb}
+use borrow.Author.Tests.{leb-true, leb-false, le-leb, lt-leb, ltb-true, ne-eqb, eq-eqb}
 use lib.Dec.{leb, ltb, eqb}
 use lib.IntN.{ℤ, pos, negsuc, negℤ, natAbs}
 use lib.Signed.{ltZ}
@@ -210,47 +210,49 @@ module _ (k : Bracket) (D x : ℕ) (ahead : Ahead k D x) where
         rest = λ h. rw e (omega (arith, ahead .far));
       }
 
+-- what holds of the bracket that rule 6 makes in either case, holds of the next
+pub advance-by : (P : Bracket → Type 0) (k : Bracket) (x : Sample)
+    → (closer x (partnerOf k x) ≡ true → P (renewedOf k x x (partnerOf k x) (k .better)))
+    → (closer x (partnerOf k x) ≡ false → P (renewedOf k x (partnerOf k x) x x))
+    → P (advanceOf k x)
+unfolding advanceOf
+advance-by P k x near far = go (closer x (partnerOf k x)) refl
+  where
+    go : (b : Bool) → closer x (partnerOf k x) ≡ b → P (cond b (renewedOf k x x (partnerOf k x) (k .better)) (renewedOf k x (partnerOf k x) x x))
+    go true e = near e
+    go false e = far e
+
 module _ (k : Bracket) (x : Sample) (D : ℕ) (held : Straddles k) (ahead : Ahead k D (x .point)) where
   pub advance-is : Advance k D (advanceOf k x)
-  unfolding advanceOf renewedOf
-  advance-is = go (closer x (partnerOf k x)) refl
-    where
-      go : (b : Bool) → closer x (partnerOf k x) ≡ b
-          → Advance k D (cond b (renewedOf k x x (partnerOf k x) (k .better)) (renewedOf k x (partnerOf k x) x x))
-      go true e =
-          let p = partner-is k x held in
-          let c = cut-at k D (x .point) ahead (partnerOf k x .point) (⊎-map (ap (λ (s : Sample). s .point)) (ap (λ (s : Sample). s .point)) (p .end)) in
-          record {
-            held = record { apart = c .apart; ends = inl refl; opposite = p .opposite };
-            closest = leb-true _ _ e;
-            inside = record { lower = c .lower; upper = c .upper };
-            narrower = c .narrower;
-            rest = c .rest;
-          }
-      go false e =
-          let p = partner-is k x held in
-          let c = cut-turned
-          (cut-at k D (x .point) ahead (partnerOf k x .point) (⊎-map (ap (λ (s : Sample). s .point)) (ap (λ (s : Sample). s .point)) (p .end))) in
-          record {
-            held = record { apart = c .apart; ends = inr refl; opposite = opposed-comm _ _ ∙ p .opposite };
-            closest = le-of-lt (leb-false _ _ e);
-            inside = record { lower = c .lower; upper = c .upper };
-            narrower = c .narrower;
-            rest = c .rest;
-          }
+  unfolding renewedOf
+  advance-is =
+      let p = partner-is k x held in
+      let c = cut-at k D (x .point) ahead (partnerOf k x .point) (⊎-map (ap (λ (s : Sample). s .point)) (ap (λ (s : Sample). s .point)) (p .end)) in
+      let d = cut-turned c in
+      advance-by (Advance k D) k x
+      (λ e. record {
+        held = record { apart = c .apart; ends = inl refl; opposite = p .opposite };
+        closest = leb-true _ _ e;
+        inside = record { lower = c .lower; upper = c .upper };
+        narrower = c .narrower;
+        rest = c .rest;
+      })
+      (λ e. record {
+        held = record { apart = d .apart; ends = inr refl; opposite = opposed-comm _ _ ∙ p .opposite };
+        closest = le-of-lt (leb-false _ _ e);
+        inside = record { lower = d .lower; upper = d .upper };
+        narrower = d .narrower;
+        rest = d .rest;
+      })
 
 -- the running number and the count
 pub advance-counts : (k : Bracket) (x : Sample)
     → (advanceOf k x .streak ≡ streakOf (widthOf k) (widthOf (advanceOf k x)) (k .streak)) × (advanceOf k x .taken ≡ k .taken + 1)
-unfolding advanceOf renewedOf
-advance-counts k x = go (closer x (partnerOf k x))
-  where
-    next : Bool → Bracket
-    next b = cond b (renewedOf k x x (partnerOf k x) (k .better)) (renewedOf k x (partnerOf k x) x x)
-
-    go : (b : Bool) → (next b .streak ≡ streakOf (widthOf k) (widthOf (next b)) (k .streak)) × (next b .taken ≡ k .taken + 1)
-    go true = (refl, refl)
-    go false = (refl, refl)
+unfolding renewedOf
+advance-counts k x =
+    advance-by (λ k'. (k' .streak ≡ streakOf (widthOf k) (widthOf k') (k .streak)) × (k' .taken ≡ k .taken + 1)) k x
+    (λ e. (refl, refl))
+    (λ e. (refl, refl))
 
 -- ---- Rule 1: the first bracket
 
@@ -298,17 +300,25 @@ start-counts x0 x1 = go (closer x1 x0)
 abbrev pub Halves : ℕ → ℕ → Type 0
 Halves L new = 2 * new ≤ L + 1
 
--- it halves and sets the running number s back, or it does not and adds 1
+-- a step that halves sets the running number s back, and one that does not adds 1
+set-back : (L new s : ℕ) → Halves L new → streakOf L new s ≡ 0
+unfolding streakOf
+set-back L new s h = simp (le-leb (2 * new) (L + 1) h)
+
+raised : (L new s : ℕ) → L + 1 < 2 * new → streakOf L new s ≡ s + 1
+unfolding streakOf
+raised L new s h = simp (lt-leb (2 * new) (L + 1) h)
+
+-- every step does one or the other
 abbrev pub Rule7 : (L new s : ℕ) → Type 0
 Rule7 L new s = (Halves L new × (streakOf L new s ≡ 0)) ⊎ ((L + 1 < 2 * new) × (streakOf L new s ≡ s + 1))
 
 pub streak-is : (L new s : ℕ) → Rule7 L new s
-unfolding streakOf
 streak-is L new s = go (halves L new) refl
   where
     go : (b : Bool) → halves L new ≡ b → Rule7 L new s
-    go true e = inl (leb-true (2 * new) (L + 1) e, simp e)
-    go false e = inr (leb-false (2 * new) (L + 1) e, simp e)
+    go true e = let h = leb-true (2 * new) (L + 1) e in inl (h, set-back L new s h)
+    go false e = let h = leb-false (2 * new) (L + 1) e in inr (h, raised L new s h)
 
 pub bisection-halves : (L new : ℕ) → new + L / 2 ≤ L → Halves L new
 bisection-halves L new h = omega arith

@@ -10,7 +10,7 @@ use mathlib.Core.Logic.{_⊎_, inl, inr}
 use native.Mathlib.Nat.{le-refl, le-trans, add-zero, zero-add}
 use native.Mathlib.Omega.{arith}
 use borrow.Author.Tests.{eqb-true, ltb-false, eq-eqb}
-use lib.Dec.{leb, eqb}
+use lib.Dec.{eqb}
 use lib.ListN.{length}
 use lib.IntN.{ℤ, pos, natAbs}
 use Rattle.integers.specs.Digits.{Least}
@@ -24,7 +24,7 @@ use Rattle.rules.specs.declared.Report.{Report}
 use Rattle.rules.specs.Rules.{highest, largestTolerance, largestValue, slots, methodOf, firstOf, secondOf, toleranceAt, closer}
 use Rattle.rules.specs.Rules.{pairOf, startOf, lowerOf, upperOf, widthOf, stoppedOf, partnerOf, thirdOf, streakOf, renewedOf}
 use Rattle.rules.specs.Rules.{advanceOf, allowed, reachOf, offsetOf, nextOf}
-use Rattle.rules.specs.RulesLaws.{Ahead, next-ahead, offset-in, going-wide, Straddles, partner-is, Advance, advance-is, advance-counts}
+use Rattle.rules.specs.RulesLaws.{Ahead, next-ahead, offset-in, going-wide, Straddles, partner-is, Advance, advance-by, advance-is, advance-counts}
 use Rattle.rules.specs.RulesLaws.{start-is, start-counts, Halves, Rule7, streak-is, bisection-halves, forced}
 use Rattle.rules.specs.Refusals.{openingRefusal, answerRefusal, tooLarge, sameSide, Accepted}
 use Rattle.rules.specs.RefusalsLaws.{Opened, opened, Passed, answer-passed, crossing-opposed}
@@ -77,12 +77,12 @@ end-limited k l (inl e) = subst Limited (sym e) (l .better)
 end-limited k l (inr e) = subst Limited (sym e) (l .other)
 
 limits-advance : (k : Bracket) (x : Sample) → Straddles k → Limits k → Limited x → Limits (advanceOf k x)
-unfolding advanceOf renewedOf
-limits-advance k x h l m = go (closer x (partnerOf k x)) (end-limited k l (partner-is k x h .end))
-  where
-    go : (b : Bool) → Limited (partnerOf k x) → Limits (cond b (renewedOf k x x (partnerOf k x) (k .better)) (renewedOf k x (partnerOf k x) x x))
-    go true p = record { better = m; other = p; previous = l .better; third = third-limited k x x l }
-    go false p = record { better = p; other = m; previous = m; third = third-limited k x (partnerOf k x) l }
+unfolding renewedOf
+limits-advance k x h l m =
+    let p = end-limited k l (partner-is k x h .end) in
+    advance-by Limits k x
+    (λ e. record { better = m; other = p; previous = l .better; third = third-limited k x x l })
+    (λ e. record { better = p; other = m; previous = m; third = third-limited k x (partnerOf k x) l })
 
 streak-grows : (L new s : ℕ) → streakOf L new s ≤ s + 1
 streak-grows L new s = go (streak-is L new s)
