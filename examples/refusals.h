@@ -6,6 +6,12 @@
 
 static const char *refusal_in_words(uint32_t number) {
     switch (number) {
+    case BUSDEKKER_NO_SUCH_DRYER:
+        return "there is no such dryer; they are 0 to 5";
+    case BUSDEKKER_NOT_ITS_TURN:
+        return "it is not this dryer's turn; keep the leaf until the oven calls for it";
+    case BUSDEKKER_STILL_SEARCHING:
+        return "its search is on its way; bring its trials until it stops, and open then";
     case BUSDEKKER_TEXT_TOO_LONG:
         return "the text is longer than 4,096 bytes";
     case BUSDEKKER_TOO_MANY_ANSWERS:

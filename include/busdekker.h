@@ -9,12 +9,14 @@
  * out of range is refused.
  *
  * Promises, for every call and every input. The call ends. It keeps no pointer, allocates nothing, blocks on nothing and has no state of its
- * own, so calls on different searches may run at once, in threads or in interrupts. It reads and writes nothing but what it is lent, whatever
- * that holds. A refusal leaves what was lent as it was: numbers may be stored again, but they are the same. A call needs at most
- * BUSDEKKER_STACK bytes of stack, with what its caller puts there to pass and return structs.
+ * own, so calls on different searches or dispatchers may run at once, in threads or in interrupts. It reads and writes nothing but what it is
+ * lent, whatever that holds. A refusal leaves what was lent as it was: numbers may be stored again, but they are the same. A call on a
+ * dispatcher needs at most BUSDEKKER_DISPATCHER_STACK bytes of stack, and every other at most BUSDEKKER_STACK, with what its caller puts there
+ * to pass and return structs.
  *
  * Asked of the host. Pointers are not null, point to whole objects, and are aligned as the compiler aligns them. While a call that takes a
- * search by a pointer that is not const runs, nobody else reads or writes that search: a search has one writer.
+ * search or a dispatcher by a pointer that is not const runs, nobody else reads or writes it: a search has one writer, and so has a dispatcher
+ * with all its searches.
  *
  * What each function returns and leaves is proved of its code, for every input, in crates/busdekker.
  */
@@ -32,8 +34,9 @@ extern "C" {
 #endif
 
 /* The version of this interface. An archive of the same version answers the same number to busdekker_version(). Since version 2
- * busdekker_sheet takes fields between double quotes and a last record without CR LF. Since version 3 there is busdekker_write. */
-#define BUSDEKKER_VERSION 3
+ * busdekker_sheet takes fields between double quotes and a last record without CR LF. Since version 3 there is busdekker_write. Since version 4
+ * there is the dispatcher. */
+#define BUSDEKKER_VERSION 4
 
 /* The answers that a search keeps. */
 #define BUSDEKKER_SLOTS 72
@@ -44,8 +47,18 @@ extern "C" {
 /* 20 bytes for the opening and 14 for each of 72 answers: a buffer of so many takes the clean sheet of every search. */
 #define BUSDEKKER_LONGEST_CLEAN_SHEET 1028
 
-/* The bytes of stack that a call needs. Measured by tests/stack.c, which runs each call on a painted stack and looks how far it was written;
- * the gate holds every call to this figure. */
+/* The dryers of a dispatcher, which are 0 to 5. */
+#define BUSDEKKER_DRYERS 6
+
+/* No dryer: what busdekker_dispatch_turn answers where none has the turn, and a dispatcher's mark where none was served. */
+#define BUSDEKKER_NOBODY 6
+
+/* From here on the count of served answers remains as it is. */
+#define BUSDEKKER_SERVED_CEILING 1000000000
+
+/* The bytes of stack that a call needs: one on a dispatcher, which copies it, and any other. Measured by tests/stack.c, which runs each call on
+ * a painted stack and looks how far it was written; the gate holds every call to its figure. */
+#define BUSDEKKER_DISPATCHER_STACK 10240
 #define BUSDEKKER_STACK 2048
 
 /* The methods. */
@@ -66,6 +79,10 @@ enum busdekker_kind {
 
 /* The numbers of refusals, in the order in which they are checked. The first that applies is told. */
 enum busdekker_refusal {
+    /* the dryer of a dispatcher, before its search and what is offered to it */
+    BUSDEKKER_NO_SUCH_DRYER = 14,   /* dryer not 0 to 5 */
+    BUSDEKKER_NOT_ITS_TURN = 15,    /* an answer for a dryer that has not the turn */
+    BUSDEKKER_STILL_SEARCHING = 16, /* an opening for a dryer whose search is accepted and unfinished */
     /* the whole text */
     BUSDEKKER_TEXT_TOO_LONG = 10, /* longer than 4,096 bytes */
     /* each record in turn */
@@ -95,6 +112,12 @@ struct busdekker_opening {
     int32_t tolerance;
 };
 
+/* An answer: the point of a trial and its value. */
+struct busdekker_answer {
+    int32_t point;
+    int32_t value;
+};
+
 /* A search that the host holds: its opening, the number of answers taken, and their values in the first slots. The others hold 0. Only
  * busdekker_open and busdekker_enter should write it. */
 struct busdekker_search {
@@ -104,13 +127,30 @@ struct busdekker_search {
 };
 
 /*
+ * A dispatcher that the host holds, for six dryers with one oven: the search of each dryer, the dryer that was last served, and the number of
+ * served answers. A dryer without a search holds the blank one, every number 0, whose report is a refusal (3). A mark `last` that is not 0 to 5
+ * reads as none served. Only busdekker_dispatch_open and busdekker_dispatch_enter should write it, its searches too; those may be lent to what
+ * reads a search, as &dispatcher.searches[2] to busdekker_write.
+ *
+ * The oven's turn goes to the next dryer whose search is accepted and unfinished, which is to say that its report is BUSDEKKER_NEXT: counting
+ * round from the one after the last served, or from dryer 0 where none was. An accepted answer serves the turn; a refused one leaves it. While
+ * nothing else writes the dispatcher, such a dryer waits for at most five served answers before its own turn.
+ */
+struct busdekker_dispatcher {
+    struct busdekker_search searches[BUSDEKKER_DRYERS];
+    uint32_t last;
+    uint32_t count;
+};
+
+/*
  * A report. A number that its kind has not is 0.
  *
  *   BUSDEKKER_NEXT     point is the setting called for, and taken the number of answers taken.
  *   BUSDEKKER_STOP     lower and upper are the ends of the last bracket, better the one of them whose value is nearer to target, and taken the
  *                      number of answers taken.
  *   BUSDEKKER_REFUSED  number says why, and place where:
- *                        1 to 4, 9    place is 0
+ *                        1 to 4, 9, 14 to 16
+ *                                     place is 0
  *                        5 to 8       place is the index of the refused value, counted from 0: in a list, its index there; in a held search,
  *                                     its slot; of an answer that is offered to a held search, the count
  *                        a sheet      place is a record, counted from 1: 1 for the opening, k + 2 for value k, 0 for the whole text
@@ -193,7 +233,7 @@ struct busdekker_report busdekker_ask(const struct busdekker_search *search);
  * which are read and not written; it is not null even where `length` is 0. A refusal is 1 to 5, 7 or 8. */
 struct busdekker_report busdekker_values(struct busdekker_opening opening, const int32_t *values, size_t length);
 
-/* The outcome of a trial sheet: the report of the search that it is, or a refusal (all but 9), whose place is a record. `text` points to
+/* The outcome of a trial sheet: the report of the search that it is, or a refusal (1 to 8, 10 to 12), whose place is a record. `text` points to
  * `length` bytes, any number of them, which are read and not written; it is not null even where `length` is 0. A record is numbers with
  * commas between them and CR LF at its end, which the last record may lack; each number may stand between double quotes. */
 struct busdekker_report busdekker_sheet(const uint8_t *text, size_t length);
@@ -210,6 +250,34 @@ struct busdekker_report busdekker_sheet(const uint8_t *text, size_t length);
  */
 struct busdekker_written busdekker_write(const struct busdekker_search *search, uint8_t *buffer, size_t size);
 
+/* A fresh dispatcher: no dryer has a search, `last` is BUSDEKKER_NOBODY, and the count is 0. */
+struct busdekker_dispatcher busdekker_dispatch_fresh(void);
+
+/* The dryer that has the oven's turn, 0 to 5, or BUSDEKKER_NOBODY where no search is accepted and unfinished. *dispatcher is read and not
+ * written. */
+uint32_t busdekker_dispatch_turn(const struct busdekker_dispatcher *dispatcher);
+
+/*
+ * Makes the dryer's search a fresh search of the opening, as busdekker_open does. The other searches, the mark and the count stay. The report
+ * calls for the first end.
+ * A refusal (14, then 16, then 1 to 4) leaves *dispatcher as it was: a search on its way cannot be lost by an opening, and one that has stopped
+ * stays until an accepted opening takes its place.
+ */
+struct busdekker_report busdekker_dispatch_open(struct busdekker_dispatcher *dispatcher, uint32_t dryer, struct busdekker_opening opening);
+
+/*
+ * Offers an answer to the search of the dryer that has the turn, as busdekker_enter does. An accepted one is served: it enters that search, the
+ * mark becomes the dryer, and the count grows by 1 if it is below BUSDEKKER_SERVED_CEILING. The other searches stay. The report is that of the
+ * dryer's search after it; the turn then is another's, unless no other search is accepted and unfinished.
+ * A refusal (14, then 15, then 6 to 8) leaves *dispatcher as it was, and the turn with it: after 6, 7 or 8 the trial may be repeated or its
+ * value corrected, and offered again. Place is the count of the dryer's search for 6 to 8.
+ */
+struct busdekker_report busdekker_dispatch_enter(struct busdekker_dispatcher *dispatcher, uint32_t dryer, struct busdekker_answer answer);
+
+/* Asks for the report of the dryer's search as it stands, as busdekker_ask does, whoever has the turn. *dispatcher is read and not written. A
+ * refusal is 14, or that of the search: 3 where the dryer has none. */
+struct busdekker_report busdekker_dispatch_ask(const struct busdekker_dispatcher *dispatcher, uint32_t dryer);
+
 /* The archive lays the structs out so. */
 BUSDEKKER_ASSERT(sizeof(struct busdekker_opening) == 16, "an opening has 16 bytes");
 BUSDEKKER_ASSERT(offsetof(struct busdekker_opening, first) == 4, "first stands at 4");
@@ -218,6 +286,11 @@ BUSDEKKER_ASSERT(offsetof(struct busdekker_opening, tolerance) == 12, "tolerance
 BUSDEKKER_ASSERT(sizeof(struct busdekker_search) == 308, "a search has 308 bytes");
 BUSDEKKER_ASSERT(offsetof(struct busdekker_search, count) == 16, "count stands at 16");
 BUSDEKKER_ASSERT(offsetof(struct busdekker_search, slots) == 20, "slots stand at 20");
+BUSDEKKER_ASSERT(sizeof(struct busdekker_answer) == 8, "an answer has 8 bytes");
+BUSDEKKER_ASSERT(offsetof(struct busdekker_answer, value) == 4, "value stands at 4");
+BUSDEKKER_ASSERT(sizeof(struct busdekker_dispatcher) == 1856, "a dispatcher has 1,856 bytes");
+BUSDEKKER_ASSERT(offsetof(struct busdekker_dispatcher, last) == 1848, "last stands at 1,848");
+BUSDEKKER_ASSERT(offsetof(struct busdekker_dispatcher, count) == 1852, "count stands at 1,852");
 BUSDEKKER_ASSERT(sizeof(struct busdekker_report) == 32, "a report has 32 bytes");
 BUSDEKKER_ASSERT(offsetof(struct busdekker_report, point) == 4, "point stands at 4");
 BUSDEKKER_ASSERT(offsetof(struct busdekker_report, lower) == 8, "lower stands at 8");

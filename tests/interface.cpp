@@ -4,6 +4,25 @@
 
 #include <cstring>
 
+// The calls on a dispatcher: dryers 4 and 1 are opened, 1 has the turn first, and then 4.
+static bool dispatches(busdekker_opening opening, busdekker_opening refused) {
+    const busdekker_answer answer = {0, -1};
+    busdekker_dispatcher dispatcher = busdekker_dispatch_fresh();
+    bool same = busdekker_dispatch_turn(&dispatcher) == BUSDEKKER_NOBODY && dispatcher.last == BUSDEKKER_NOBODY && dispatcher.count == 0;
+    same = same && busdekker_dispatch_ask(&dispatcher, 5).number == BUSDEKKER_ENDS_EQUAL;
+    same = same && busdekker_dispatch_open(&dispatcher, 4, opening).kind == BUSDEKKER_NEXT;
+    same = same && busdekker_dispatch_open(&dispatcher, 4, refused).number == BUSDEKKER_STILL_SEARCHING;
+    same = same && busdekker_dispatch_open(&dispatcher, 1, refused).number == BUSDEKKER_ENDS_EQUAL;
+    same = same && busdekker_dispatch_open(&dispatcher, 1, opening).kind == BUSDEKKER_NEXT;
+    same = same && busdekker_dispatch_open(&dispatcher, BUSDEKKER_DRYERS, opening).number == BUSDEKKER_NO_SUCH_DRYER;
+    same = same && busdekker_dispatch_turn(&dispatcher) == 1;
+    same = same && busdekker_dispatch_enter(&dispatcher, 4, answer).number == BUSDEKKER_NOT_ITS_TURN;
+    same = same && busdekker_dispatch_enter(&dispatcher, 1, answer).point == 2;
+    same = same && busdekker_dispatch_turn(&dispatcher) == 4 && dispatcher.last == 1 && dispatcher.count == 1;
+    same = same && busdekker_dispatch_ask(&dispatcher, 1).taken == 1 && busdekker_ask(&dispatcher.searches[1]).taken == 1;
+    return same;
+}
+
 int main() {
     const busdekker_opening opening = {BUSDEKKER_M, 0, 2, 1};
     const busdekker_opening refused = {BUSDEKKER_R, 7, 7, 1};
@@ -25,5 +44,5 @@ int main() {
     const busdekker_written written = busdekker_write(&search, buffer, sizeof buffer);
     same = same && written.kind == BUSDEKKER_WRITTEN && written.length == sizeof clean - 1 && std::memcmp(buffer, clean, written.length) == 0;
     same = same && busdekker_write(&search, buffer, written.length - 1).number == BUSDEKKER_BUFFER_TOO_SHORT;
-    return same ? 0 : 1;
+    return same && dispatches(opening, refused) ? 0 : 1;
 }

@@ -1,8 +1,9 @@
 /*
  * The stack that the calls of include/busdekker.h need, measured. Each call is made by a function that does nothing else, on a stack that was
  * painted before; how far down the paint is gone, less what an empty function uses there, is what the call needs, with what its caller puts on
- * the stack to pass and return structs. Each call is tried at every answer of two long searches, by M and by R, and on refused openings.
- * The program prints the largest figure for each call, and exits 1 if one is above BUSDEKKER_STACK.
+ * the stack to pass and return structs. Each call is tried at every answer of two long searches, by M and by R, and on refused openings; those
+ * on a dispatcher at every answer of a morning with six such searches. The program prints the largest figure for each call, and exits 1 if one
+ * is above its limit, BUSDEKKER_STACK or BUSDEKKER_DISPATCHER_STACK.
  */
 #define _XOPEN_SOURCE 700
 
@@ -13,7 +14,7 @@
 
 #include "busdekker.h"
 
-enum { STACK = 1 << 15, PAINT = 0xA5 };
+enum { STACK = 1 << 16, PAINT = 0xA5 };
 
 static unsigned char stack[STACK];
 static ucontext_t here, there;
@@ -25,6 +26,8 @@ static int32_t point, value;
 static char text[BUSDEKKER_LONGEST_SHEET];
 static size_t length;
 static uint8_t clean[BUSDEKKER_LONGEST_CLEAN_SHEET];
+static struct busdekker_dispatcher dispatcher, other_dispatcher;
+static uint32_t dryer;
 static uint32_t kinds;
 
 static void nothing(void) {
@@ -70,6 +73,34 @@ static void write_clean(void) {
     kinds += busdekker_write(&search, clean, 0).kind;
 }
 
+static void dispatch_fresh(void) {
+    other_dispatcher = busdekker_dispatch_fresh();
+}
+
+static void dispatch_turn(void) {
+    kinds += busdekker_dispatch_turn(&dispatcher);
+}
+
+/* For every dryer, whether its search has stopped or is on its way, and for one that is not there. */
+static void dispatch_open(void) {
+    for (uint32_t k = 0; k <= BUSDEKKER_DRYERS; k++) {
+        kinds += busdekker_dispatch_open(&other_dispatcher, k, opening).kind;
+    }
+}
+
+static void dispatch_ask(void) {
+    for (uint32_t k = 0; k <= BUSDEKKER_DRYERS; k++) {
+        kinds += busdekker_dispatch_ask(&dispatcher, k).kind;
+    }
+}
+
+/* For a dryer that has not the turn, or is not there, and for the one that has it. */
+static void dispatch_enter(void) {
+    struct busdekker_answer answer = {point, value};
+    kinds += busdekker_dispatch_enter(&dispatcher, dryer + 1, answer).kind;
+    kinds += busdekker_dispatch_enter(&dispatcher, dryer, answer).kind;
+}
+
 /* The bytes of the painted stack that a function writes, or all of them where it could not be run there. */
 static size_t used(void (*function)(void)) {
     size_t untouched = 0;
@@ -90,23 +121,31 @@ static size_t used(void (*function)(void)) {
     return sizeof stack - untouched;
 }
 
-/* `enter` is the last: it changes the search. */
-static struct {
+struct call {
     const char *name;
     void (*function)(void);
     size_t most;
-} calls[] = {
+};
+
+/* In each list the last is the one that changes the search or the dispatcher. */
+static struct call on_searches[] = {
     {"busdekker_version", version, 0}, {"busdekker_quote", quote, 0},       {"busdekker_open", open_anew, 0},
     {"busdekker_entered", entered, 0}, {"busdekker_ask", ask, 0},           {"busdekker_values", values, 0},
     {"busdekker_sheet", sheet, 0},     {"busdekker_write", write_clean, 0}, {"busdekker_enter", enter, 0},
 };
+static struct call on_dispatchers[] = {
+    {"busdekker_dispatch_fresh", dispatch_fresh, 0}, {"busdekker_dispatch_turn", dispatch_turn, 0},
+    {"busdekker_dispatch_open", dispatch_open, 0},   {"busdekker_dispatch_ask", dispatch_ask, 0},
+    {"busdekker_dispatch_enter", dispatch_enter, 0},
+};
 
-enum { CALLS = sizeof calls / sizeof calls[0] };
+enum { ON_SEARCHES = sizeof on_searches / sizeof on_searches[0], ON_DISPATCHERS = sizeof on_dispatchers / sizeof on_dispatchers[0] };
 
-/* Each call on what is now set. */
-static void measure(void) {
+/* Each of the calls on what is now set. */
+static void measure(struct call *calls, int count) {
     size_t empty = used(nothing);
-    for (int k = 0; k < CALLS; k++) {
+    for (int k = 0; k < count; k++) {
+        other_dispatcher = dispatcher;
         size_t bytes = used(calls[k].function) - empty;
         if (bytes > calls[k].most) {
             calls[k].most = bytes;
@@ -114,42 +153,71 @@ static void measure(void) {
     }
 }
 
+/* Prints the calls' figures, and tells how many are above the limit. */
+static int above_limit(const struct call *calls, int count, size_t limit) {
+    int above = 0;
+    for (int k = 0; k < count; k++) {
+        printf("%-24s %5zu bytes of stack\n", calls[k].name, calls[k].most);
+        if (calls[k].most > limit) {
+            fprintf(stderr, "stack: %s needs %zu bytes, and busdekker.h says %zu\n", calls[k].name, calls[k].most, limit);
+            above++;
+        }
+    }
+    return above;
+}
+
 /* A line of the sheet. */
 static void write_line(const char *format, int32_t a, int32_t b) {
     length += (size_t)snprintf(text + length, sizeof text - length, format, a, b);
 }
 
-/* Every answer of a long search: the value is small and mostly positive at every point but the first. */
+/* The answers of a long search: the value is small and mostly positive at every point but the first. */
+static int32_t value_after(uint32_t taken) {
+    return taken == 0 ? -10000 : taken % 7 == 6 ? -1 : 1 + (int32_t)(taken % 3);
+}
+
+/* Every answer of a long search. */
 static void search_through(int32_t method) {
     opening = (struct busdekker_opening){method, 0, 20000, 1};
     length = 0;
     write_line("%" PRId32 ",0,20000,%" PRId32 "\r\n", method, 1);
     struct busdekker_report report = busdekker_open(&search, opening);
-    for (int k = 0; report.kind == BUSDEKKER_NEXT; k++) {
+    while (report.kind == BUSDEKKER_NEXT) {
         point = (int32_t)report.point;
-        value = k == 0 ? -10000 : k % 7 == 6 ? -1 : 1 + k % 3;
-        measure();
+        value = value_after(report.taken);
+        measure(on_searches, ON_SEARCHES);
         write_line("%" PRId32 ",%" PRId32 "\r\n", point, value);
         report = busdekker_ask(&search);
     }
-    measure();
+    measure(on_searches, ON_SEARCHES);
+}
+
+/* Every answer of six long searches on one dispatcher, by M and by R. */
+static void morning_through(void) {
+    dispatcher = busdekker_dispatch_fresh();
+    measure(on_dispatchers, ON_DISPATCHERS);
+    for (dryer = 0; dryer < BUSDEKKER_DRYERS; dryer++) {
+        opening = (struct busdekker_opening){dryer % 2 == 0 ? BUSDEKKER_M : BUSDEKKER_R, 0, 20000 - (int32_t)dryer, 1};
+        kinds += busdekker_dispatch_open(&dispatcher, dryer, opening).kind;
+    }
+    for (dryer = busdekker_dispatch_turn(&dispatcher); dryer != BUSDEKKER_NOBODY; dryer = busdekker_dispatch_turn(&dispatcher)) {
+        struct busdekker_report report = busdekker_dispatch_ask(&dispatcher, dryer);
+        point = (int32_t)report.point;
+        value = value_after(report.taken);
+        measure(on_dispatchers, ON_DISPATCHERS);
+    }
+    measure(on_dispatchers, ON_DISPATCHERS);
 }
 
 int main(void) {
     search_through(BUSDEKKER_M);
     search_through(BUSDEKKER_R);
     opening = (struct busdekker_opening){3, 0, 20000, 1};
-    measure();
+    measure(on_searches, ON_SEARCHES);
     search.count = BUSDEKKER_SLOTS + 1;
-    measure();
-    size_t most = 0;
-    for (int k = 0; k < CALLS; k++) {
-        printf("%-18s %5zu bytes of stack\n", calls[k].name, calls[k].most);
-        most = calls[k].most > most ? calls[k].most : most;
-    }
-    if (most > BUSDEKKER_STACK) {
-        fprintf(stderr, "stack: a call needs %zu bytes, and busdekker.h says %d\n", most, BUSDEKKER_STACK);
-        return 1;
-    }
-    return 0;
+    measure(on_searches, ON_SEARCHES);
+    morning_through();
+    int above = above_limit(on_searches, ON_SEARCHES, BUSDEKKER_STACK);
+    above += above_limit(on_dispatchers, ON_DISPATCHERS, BUSDEKKER_DISPATCHER_STACK);
+    return above == 0 ? 0 : 1;
 }

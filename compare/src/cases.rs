@@ -1,8 +1,9 @@
-//! Openings, lists of values and held searches made at random, of every kind that a host may bring.
+//! Openings, lists of values, held searches and dispatchers made at random, of every kind that a host
+//! may bring.
 
 use crate::model::{self, Book};
 use crate::rng::Rng;
-use crate::types::{Opening, Search, SLOTS};
+use crate::types::{Dispatcher, Opening, Search, SLOTS};
 
 /// An opening with nothing wrong in it, of every width and every tolerance.
 pub fn accepted_opening(rng: &mut Rng) -> Opening {
@@ -250,6 +251,42 @@ pub fn any_search(rng: &mut Rng) -> Search {
         _ => n as u32,
     };
     search
+}
+
+/// A search that is accepted and unfinished. Slots past its count may hold anything.
+fn search_on_its_way(rng: &mut Rng) -> Search {
+    let opening = accepted_opening(rng);
+    let values = answered(opening, rng).values();
+    let mut search = Book::of(opening, &values[..rng.below(values.len())]).search();
+    if rng.once_in(2) {
+        let count = search.count as usize;
+        search.slots[count..].fill_with(|| rng.any());
+    }
+    search
+}
+
+/// A dispatcher of any kind: each dryer has a search that is on its way, one of any kind or none;
+/// the mark and the count are mostly at or around their limits.
+pub fn any_dispatcher(rng: &mut Rng) -> Dispatcher {
+    let mut dispatcher = Dispatcher::fresh();
+    for search in &mut dispatcher.searches {
+        match rng.below(5) {
+            0 => (),
+            1 | 2 => *search = any_search(rng),
+            _ => *search = search_on_its_way(rng),
+        }
+    }
+    dispatcher.last = match rng.below(16) {
+        0 => rng.any() as u32,
+        _ => rng.pick(&[0, 1, 2, 3, 4, 5, 6, 7, u32::MAX]),
+    };
+    dispatcher.count = match rng.below(8) {
+        0 => rng.any() as u32,
+        1 => 0,
+        2 => u32::MAX,
+        _ => rng.between(999_999_995, 1_000_000_001) as u32,
+    };
+    dispatcher
 }
 
 /// A point that is mostly not the one called for.

@@ -1,12 +1,12 @@
 //! The C interface of the proved library, include/busdekker.h, behind safe functions.
 
-use crate::types::{Answered, Opening, Quotation, Report, Search, Written};
+use crate::types::{Answer, Answered, Dispatcher, Opening, Quotation, Report, Search, Written};
 
 /// Who answers.
 pub const WHO: &str = "the proved library, target/staticlib/libbusdekker.a";
 
 /// The version of the interface that is declared here.
-pub const VERSION: u32 = 3;
+pub const VERSION: u32 = 4;
 
 extern "C" {
     fn busdekker_version() -> u32;
@@ -18,6 +18,12 @@ extern "C" {
     fn busdekker_values(opening: Opening, values: *const i32, length: usize) -> Report;
     fn busdekker_sheet(text: *const u8, length: usize) -> Report;
     fn busdekker_write(search: *const Search, buffer: *mut u8, size: usize) -> Written;
+    fn busdekker_dispatch_fresh() -> Dispatcher;
+    fn busdekker_dispatch_turn(dispatcher: *const Dispatcher) -> u32;
+    fn busdekker_dispatch_open(dispatcher: *mut Dispatcher, dryer: u32, opening: Opening)
+        -> Report;
+    fn busdekker_dispatch_enter(dispatcher: *mut Dispatcher, dryer: u32, answer: Answer) -> Report;
+    fn busdekker_dispatch_ask(dispatcher: *const Dispatcher, dryer: u32) -> Report;
 }
 
 /// The version of the interface that the library has.
@@ -73,4 +79,34 @@ pub fn write(search: &Search, buffer: &mut [u8]) -> Written {
     // The reference is to a whole search, which is only read. The pointer and the length are those
     // of a slice that nobody else reads or writes.
     unsafe { busdekker_write(search, buffer.as_mut_ptr(), buffer.len()) }
+}
+
+/// A fresh dispatcher.
+pub fn dispatch_fresh() -> Dispatcher {
+    // Nothing goes in, and numbers come out.
+    unsafe { busdekker_dispatch_fresh() }
+}
+
+/// The dryer that has the oven's turn, or nobody.
+pub fn dispatch_turn(dispatcher: &Dispatcher) -> u32 {
+    // The reference is to a whole dispatcher, which is only read.
+    unsafe { busdekker_dispatch_turn(dispatcher) }
+}
+
+/// A fresh search at a dryer of the host's dispatcher.
+pub fn dispatch_open(dispatcher: &mut Dispatcher, dryer: u32, opening: &Opening) -> Report {
+    // The reference is to a whole dispatcher that nobody else reads or writes.
+    unsafe { busdekker_dispatch_open(dispatcher, dryer, *opening) }
+}
+
+/// An answer for a dryer of the host's dispatcher.
+pub fn dispatch_enter(dispatcher: &mut Dispatcher, dryer: u32, answer: Answer) -> Report {
+    // The reference is to a whole dispatcher that nobody else reads or writes.
+    unsafe { busdekker_dispatch_enter(dispatcher, dryer, answer) }
+}
+
+/// The report of a dryer.
+pub fn dispatch_ask(dispatcher: &Dispatcher, dryer: u32) -> Report {
+    // The reference is to a whole dispatcher, which is only read.
+    unsafe { busdekker_dispatch_ask(dispatcher, dryer) }
 }

@@ -9,9 +9,11 @@ pub mod checks;
 pub mod clean;
 pub mod counts;
 pub mod curves;
+pub mod dispatcher;
 #[allow(unsafe_code)]
 pub mod ffi;
 pub mod model;
+pub mod oven;
 pub mod picture;
 pub mod plain;
 pub mod rng;

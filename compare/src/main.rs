@@ -8,6 +8,7 @@ use compare::cases::{self, Oven};
 use compare::checks::{agree, list_as_sheet, search_as_sheet, Checked, Tally};
 use compare::clean::clean_sheets;
 use compare::model::{self, Book};
+use compare::oven::dispatchers;
 use compare::rng::Rng;
 use compare::types::{Opening, Report, Search};
 use compare::{beam, ffi, sheets};
@@ -59,7 +60,7 @@ fn main() -> ExitCode {
 /// All parts in turn, and the number of cases.
 fn compare(rng: &mut Rng) -> Result<u64, String> {
     let mut cases = 0;
-    let parts: [(&str, Part); 8] = [
+    let parts: [(&str, Part); 9] = [
         ("lists of values", lists),
         ("runs of the trial book, from a fresh search", runs),
         ("calls in a row on searches that hold anything", held),
@@ -68,6 +69,7 @@ fn compare(rng: &mut Rng) -> Result<u64, String> {
         ("orders of values that make searches long", long_orders),
         ("quotes", quotes),
         ("clean sheets, into buffers of many lengths", clean_sheets),
+        ("calls on dispatchers, one after the other", dispatchers),
     ];
     for (name, part) in parts {
         let start = Instant::now();

@@ -2,13 +2,15 @@
 //! arithmetic, nothing on the heap. It is the benchmark's baseline.
 
 use crate::types::{
-    Answered, Opening, Quotation, Report, Search, Written, LONGEST_CLEAN_SHEET, SLOTS,
+    Answer, Answered, Dispatcher, Opening, Quotation, Report, Search, Written, DRYERS,
+    LONGEST_CLEAN_SHEET, NOBODY, SLOTS,
 };
 
 const HIGHEST_POINT: i32 = 20_000;
 const LARGEST_TOLERANCE: i32 = 5_000;
 const LARGEST_VALUE: i32 = 10_000;
 const LONGEST_TEXT: usize = 4_096;
+const SERVED_CEILING: u32 = 1_000_000_000;
 
 /// A point and its value.
 #[derive(Clone, Copy, PartialEq, Eq, Hash)]
@@ -280,10 +282,15 @@ pub fn ask(search: &Search) -> Report {
 
 /// An answer entered into the host's own search.
 pub fn enter(search: &mut Search, point: i32, value: i32) -> Report {
-    let mut walk = match held(search) {
-        Ok(walk) => walk,
-        Err(refusal) => return refusal,
-    };
+    match held(search) {
+        Ok(walk) => offer(search, walk, point, value),
+        Err(refusal) => refusal,
+    }
+}
+
+/// An answer entered into a search whose held values make this walk.
+#[inline]
+fn offer(search: &mut Search, mut walk: Walk, point: i32, value: i32) -> Report {
     match walk.take_at(point, value) {
         Ok(()) => {
             search.slots[search.count as usize] = value;
@@ -518,5 +525,62 @@ fn digits(size: u32) -> usize {
         100..=999 => 3,
         1_000..=9_999 => 4,
         _ => 5,
+    }
+}
+
+/// The dryer that has the oven's turn, with the walk of its search.
+fn turn_walk(dispatcher: &Dispatcher) -> Option<(usize, Walk)> {
+    let first = match dispatcher.last as usize {
+        last @ 0..DRYERS => last + 1,
+        _ => 0,
+    };
+    (first..first + DRYERS).find_map(|place| {
+        let dryer = place % DRYERS;
+        let walk = held(&dispatcher.searches[dryer]).ok()?;
+        (!walk.stopped).then_some((dryer, walk))
+    })
+}
+
+/// The dryer that has the oven's turn, or nobody.
+pub fn dispatch_turn(dispatcher: &Dispatcher) -> u32 {
+    turn_walk(dispatcher).map_or(NOBODY, |(dryer, _)| dryer as u32)
+}
+
+/// A fresh search at a dryer whose search is not on its way.
+pub fn dispatch_open(dispatcher: &mut Dispatcher, dryer: u32, opening: &Opening) -> Report {
+    let Some(search) = dispatcher.searches.get_mut(dryer as usize) else {
+        return Report::refuse(14, 0);
+    };
+    match held(search) {
+        Ok(walk) if !walk.stopped => Report::refuse(16, 0),
+        _ => open(search, opening),
+    }
+}
+
+/// An answer for the dryer that has the turn. The walk that finds the turn takes it.
+pub fn dispatch_enter(dispatcher: &mut Dispatcher, dryer: u32, answer: Answer) -> Report {
+    if dryer as usize >= DRYERS {
+        return Report::refuse(14, 0);
+    }
+    let walk = match turn_walk(dispatcher) {
+        Some((turn, walk)) if turn == dryer as usize => walk,
+        _ => return Report::refuse(15, 0),
+    };
+    let search = &mut dispatcher.searches[dryer as usize];
+    let report = offer(search, walk, answer.point, answer.value);
+    if report.kind != Report::REFUSED {
+        dispatcher.last = dryer;
+        if dispatcher.count < SERVED_CEILING {
+            dispatcher.count += 1;
+        }
+    }
+    report
+}
+
+/// The report of a dryer.
+pub fn dispatch_ask(dispatcher: &Dispatcher, dryer: u32) -> Report {
+    match dispatcher.searches.get(dryer as usize) {
+        Some(search) => ask(search),
+        None => Report::refuse(14, 0),
     }
 }

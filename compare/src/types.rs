@@ -6,6 +6,12 @@ use std::mem::{offset_of, size_of};
 /// The slots of a held search.
 pub const SLOTS: usize = 72;
 
+/// The dryers of a dispatcher.
+pub const DRYERS: usize = 6;
+
+/// No dryer: the turn where none has it, and the mark where none was served.
+pub const NOBODY: u32 = 6;
+
 /// The bytes that the clean sheet of every search fits in: 20 for the opening and 14 for each
 /// answer.
 pub const LONGEST_CLEAN_SHEET: usize = 1_028;
@@ -47,6 +53,41 @@ impl Search {
             opening,
             count: 0,
             slots: [0; SLOTS],
+        }
+    }
+}
+
+/// An answer: a point and its value, each as it was offered.
+#[repr(C)]
+#[derive(Clone, Copy, Debug, PartialEq, Eq)]
+pub struct Answer {
+    pub point: i32,
+    pub value: i32,
+}
+
+impl Answer {
+    pub const fn new(point: i32, value: i32) -> Self {
+        Answer { point, value }
+    }
+}
+
+/// A dispatcher, as the host keeps it: the search of each dryer, the dryer that was last served and
+/// the number of served answers.
+#[repr(C)]
+#[derive(Clone, Copy, Debug, PartialEq, Eq)]
+pub struct Dispatcher {
+    pub searches: [Search; DRYERS],
+    pub last: u32,
+    pub count: u32,
+}
+
+impl Dispatcher {
+    /// No search, which is six of nothing but 0; nobody served; and a count of 0.
+    pub const fn fresh() -> Self {
+        Dispatcher {
+            searches: [Search::fresh(Opening::new(0, 0, 0, 0)); DRYERS],
+            last: NOBODY,
+            count: 0,
         }
     }
 }
@@ -219,6 +260,11 @@ const _: () = {
     assert!(size_of::<Search>() == 308);
     assert!(offset_of!(Search, count) == 16);
     assert!(offset_of!(Search, slots) == 20);
+    assert!(size_of::<Answer>() == 8);
+    assert!(offset_of!(Answer, value) == 4);
+    assert!(size_of::<Dispatcher>() == 1_856);
+    assert!(offset_of!(Dispatcher, last) == 1_848);
+    assert!(offset_of!(Dispatcher, count) == 1_852);
     assert!(size_of::<Report>() == 32);
     assert!(offset_of!(Report, point) == 4);
     assert!(offset_of!(Report, lower) == 8);

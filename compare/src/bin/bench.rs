@@ -3,7 +3,9 @@
 #![forbid(unsafe_code)]
 
 use compare::rng::Rng;
-use compare::types::{Answered, Opening, Report, Search, Written, LONGEST_CLEAN_SHEET};
+use compare::types::{
+    Answer, Answered, Dispatcher, Opening, Report, Search, Written, DRYERS, LONGEST_CLEAN_SHEET,
+};
 use compare::{beam, cases, ffi, model, plain, sheets};
 use std::hint::black_box;
 use std::time::Instant;
@@ -59,6 +61,8 @@ struct Calls {
     values: fn(&Opening, &[i32]) -> Report,
     sheet: fn(&[u8]) -> Report,
     write: fn(&Search, &mut [u8]) -> Written,
+    dispatch_enter: fn(&mut Dispatcher, u32, Answer) -> Report,
+    dispatch_turn: fn(&Dispatcher) -> u32,
 }
 
 const LIBRARY: Calls = Calls {
@@ -67,6 +71,8 @@ const LIBRARY: Calls = Calls {
     values: ffi::values,
     sheet: ffi::sheet,
     write: ffi::write,
+    dispatch_enter: ffi::dispatch_enter,
+    dispatch_turn: ffi::dispatch_turn,
 };
 
 const PLAIN: Calls = Calls {
@@ -75,6 +81,8 @@ const PLAIN: Calls = Calls {
     values: plain::values,
     sheet: plain::sheet,
     write: plain::write,
+    dispatch_enter: plain::dispatch_enter,
+    dispatch_turn: plain::dispatch_turn,
 };
 
 /// A search, and an answer offered to it: its point and its value.
@@ -96,7 +104,9 @@ fn main() {
     );
     let mut rng = Rng::new(SEED);
     println!("\noperation                                   library ns    plain ns  library/plain");
-    table("usual", &usual(USUAL, &mut rng));
+    let works = usual(USUAL, &mut rng);
+    table("usual", &works);
+    dispatchers(&works);
     let long = long(&mut rng);
     table("long", &long);
     println!("an answer into the host's search, by the answers that it holds already:");
@@ -140,6 +150,50 @@ fn table(kind: &str, works: &[Work]) {
     line("  a list of values", works, searches, &listing);
     line("  a sheet", works, searches, &reading);
     line("  a clean sheet written", works, searches, &writing);
+}
+
+/// A dispatcher, and the answers offered to it in the order of the turns, each with its dryer.
+type Morning = (Dispatcher, Vec<(u32, Answer)>);
+
+/// Two lines: the works as the searches of dispatchers, six at each.
+fn dispatchers(works: &[Work]) {
+    let (fresh, halfway): (Vec<Morning>, Vec<Dispatcher>) =
+        works.chunks_exact(DRYERS).map(morning).unzip();
+    let answers = fresh.iter().map(|(_, offers)| offers.len()).sum();
+    println!("{} dispatchers, with six of them at each:", fresh.len());
+    let timed = |calls, _: &[Work]| dispatching(calls, fresh.clone());
+    line(
+        "  an answer, through its dispatcher",
+        works,
+        answers,
+        &timed,
+    );
+    let timed = |calls, _: &[Work]| asking(calls, &halfway);
+    line("  the turn, half-way", works, halfway.len(), &timed);
+}
+
+/// The morning of six works, with the dispatcher at its beginning and half-way.
+fn morning(works: &[Work]) -> (Morning, Dispatcher) {
+    let mut start = Dispatcher::fresh();
+    for (search, work) in start.searches.iter_mut().zip(works) {
+        *search = Search::fresh(work.opening);
+    }
+    let mut stages = vec![start];
+    let mut offers = Vec::new();
+    loop {
+        let mut now = stages[offers.len()];
+        let dryer = plain::dispatch_turn(&now);
+        let Some(search) = now.searches.get(dryer as usize) else {
+            break;
+        };
+        let (point, value) = works[dryer as usize].answers[search.count as usize];
+        let answer = Answer::new(point, value);
+        plain::dispatch_enter(&mut now, dryer, answer);
+        offers.push((dryer, answer));
+        stages.push(now);
+    }
+    let halfway = stages[stages.len() / 2];
+    ((start, offers), halfway)
 }
 
 /// How the cost of an answer, entered into the host's search, grows with the answers before it.
@@ -201,6 +255,32 @@ fn entering(calls: Calls, works: &[Work]) -> f64 {
     let time = start.elapsed();
     black_box(&searches);
     time.as_nanos() as f64
+}
+
+/// Every answer of every morning, through its dispatcher.
+fn dispatching(calls: Calls, mut mornings: Vec<Morning>) -> f64 {
+    let start = Instant::now();
+    for (dispatcher, offers) in &mut mornings {
+        for &mut (dryer, answer) in offers {
+            black_box((calls.dispatch_enter)(
+                dispatcher,
+                black_box(dryer),
+                black_box(answer),
+            ));
+        }
+    }
+    let time = start.elapsed();
+    black_box(&mornings);
+    time.as_nanos() as f64
+}
+
+/// The turn of every dispatcher.
+fn asking(calls: Calls, dispatchers: &[Dispatcher]) -> f64 {
+    let start = Instant::now();
+    for dispatcher in dispatchers {
+        black_box((calls.dispatch_turn)(black_box(dispatcher)));
+    }
+    start.elapsed().as_nanos() as f64
 }
 
 /// Each answer entered into its search, the host's own.

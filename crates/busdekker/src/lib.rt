@@ -7,10 +7,14 @@ ghost use Rattle.held.specs.Held.{reopenOf, heldReport, enterOf};
 ghost use Rattle.outcomes.specs.Sheet.{sheetOf};
 ghost use Rattle.clean_sheets.specs.Clean.{writtenOf, bufferOf, writtenRowOf};
 ghost use Rattle.numbered.specs.Numbered.{answeredOf};
+ghost use Rattle.dispatching.specs.Dispatching.{freshDispatcher, turnOf, openingAt, answerAt, dryerReport};
+ghost use Rattle.dispatch_numbers.specs.Numbers.{turnNumber};
 ghost use Rattle.busdekker.specs.Interface.{version};
 use clean_sheets::WrittenRow;
+use dispatching::Dispatcher;
 use held::Search;
 use numbered::Answered;
+use rules::Answer;
 use rules::Opening;
 use rules::Quotation;
 use rules::Row;
@@ -20,7 +24,7 @@ use rules::Row;
 pub extern "C" fn busdekker_version() -> u32
     ensures { λ r. ⌜ r ≡ version ⌝ }
 {
-    3
+    4
 }
 
 // t and the most answers that an opening may need.
@@ -104,4 +108,58 @@ pub extern "C" fn busdekker_write(search: &Search, out: &mut [u8]) -> WrittenRow
         × (now (out .exit) ≡ bufferOf (now (search .entry)) (now (out .entry))) ⌝ }
 {
     numbered::step_write(*search, out)
+}
+
+// A fresh dispatcher: no search, none served and a count of 0.
+#[no_mangle]
+pub extern "C" fn busdekker_dispatch_fresh() -> Dispatcher
+    ensures { λ r. ⌜ r ≡ freshDispatcher ⌝ }
+{
+    dispatch::fresh()
+}
+
+// The dryer that has the turn at the host's dispatcher, or 6 where nobody has it.
+#[no_mangle]
+pub extern "C" fn busdekker_dispatch_turn(dispatcher: &Dispatcher) -> u32
+    ensures { λ r. ⌜ r ≡ turnNumber (turnOf (now (dispatcher .entry))) ⌝ }
+{
+    dispatch_numbers::step_turn(*dispatcher)
+}
+
+// Makes the search at a dryer of the host's dispatcher a fresh one of the opening, or refuses that.
+#[no_mangle]
+pub extern "C" fn busdekker_dispatch_open(
+    dispatcher: &mut Dispatcher,
+    dryer: u32,
+    opening: Opening,
+) -> Row
+    ensures { λ r. ⌜ (r ≡ rowOf ((openingAt (now (dispatcher .entry)) dryer opening) .report))
+        × (now (dispatcher .exit) ≡ (openingAt (now (dispatcher .entry)) dryer opening) .dispatcher) ⌝ }
+{
+    let e = dispatch_numbers::step_open(*dispatcher, dryer, opening);
+    *dispatcher = e.dispatcher;
+    e.report
+}
+
+// Enters an answer into the search at a dryer of the host's dispatcher, or refuses it.
+#[no_mangle]
+pub extern "C" fn busdekker_dispatch_enter(
+    dispatcher: &mut Dispatcher,
+    dryer: u32,
+    answer: Answer,
+) -> Row
+    ensures { λ r. ⌜ (r ≡ rowOf ((answerAt (now (dispatcher .entry)) dryer answer) .report))
+        × (now (dispatcher .exit) ≡ (answerAt (now (dispatcher .entry)) dryer answer) .dispatcher) ⌝ }
+{
+    let e = dispatch_numbers::step_enter(*dispatcher, dryer, answer);
+    *dispatcher = e.dispatcher;
+    e.report
+}
+
+// The report of the search at a dryer of the host's dispatcher.
+#[no_mangle]
+pub extern "C" fn busdekker_dispatch_ask(dispatcher: &Dispatcher, dryer: u32) -> Row
+    ensures { λ r. ⌜ r ≡ rowOf (dryerReport (now (dispatcher .entry)) dryer) ⌝ }
+{
+    dispatch_numbers::step_ask(*dispatcher, dryer)
 }

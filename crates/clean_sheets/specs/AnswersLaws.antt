@@ -13,6 +13,7 @@ use lib.ListN.{length, take, getD}
 use Rattle.integers.specs.Signs.{eqZ}
 use Rattle.integers.specs.SignsLaws.{eqZ-true, never}
 use Rattle.rules.specs.declared.Opening.{Opening}
+use Rattle.rules.specs.declared.Answer.{Answer}
 use Rattle.rules.specs.declared.Bracket.{Bracket}
 use Rattle.rules.specs.declared.Progress.{Progress}
 use Rattle.rules.specs.declared.Report.{Report}
@@ -20,7 +21,7 @@ use Rattle.rules.specs.Rules.{largestValue, firstOf, secondOf, startOf, nextOf,
 use Rattle.rules.specs.Refusals.{openingRefusal, Accepted}
 use Rattle.rules.specs.Search.{isRefused, stoppedAt, otherAt, beginOf, offerOf, takeOf, progressOf, answersOf, bracketReport, reportAt, reportOf}
 use Rattle.rules.specs.SearchLaws.{CountedAt, counted-offer, refused-stays, answers-stay, accepted-of, Taken, taken-is}
-use Rattle.journal.specs.Answers.{Answer, points, values}
+use Rattle.journal.specs.Answers.{points, values}
 use Rattle.journal.specs.JournalLaws.{Following, Onward, At, Kept}
 use Rattle.clean_sheets.specs.Clean.{calledAt, withPoints}
 

@@ -9,13 +9,14 @@ use mathlib.Core.List.{List}
 use lib.IntN.{pos, natAbs}
 use lib.ListN.{length, take, getD}
 use Rattle.rules.specs.declared.Opening.{Opening}
+use Rattle.rules.specs.declared.Answer.{Answer}
 use Rattle.rules.specs.declared.Report.{Report}
 use Rattle.rules.specs.Rules.{slots, padded}
 use Rattle.rules.specs.Search.{reportOf, isRefusal}
 use Rattle.held.specs.declared.Search.{Search}
 use Rattle.held.specs.Held.{valuesOf, heldReport}
 use Rattle.outcomes.specs.Sheet.{sheetOf}
-use Rattle.journal.specs.Answers.{Answer, points, values}
+use Rattle.journal.specs.Answers.{points, values}
 use Rattle.journal.specs.Spelling.{SheetText, CleanText, Clean}
 use Rattle.journal.specs.Reading.{ReadAs}
 use Rattle.clean_sheets.specs.Clean.{heldAnswers, cleanOf, longestSheet, rewrittenOf}

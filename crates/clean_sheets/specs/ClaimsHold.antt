@@ -13,6 +13,7 @@ use lib.ListN.{length}
 use lib.Seq.{length-take-le}
 use Rattle.integers.specs.SignsLaws.{never}
 use Rattle.rules.specs.declared.Opening.{Opening}
+use Rattle.rules.specs.declared.Answer.{Answer}
 use Rattle.rules.specs.declared.Progress.{Progress}
 use Rattle.rules.specs.declared.Report.{Report}
 use Rattle.rules.specs.Rules.{slots, padded}
@@ -30,7 +31,7 @@ use Rattle.forms.specs.declared.Entries.{Entries}
 use Rattle.forms.specs.Entries.{openingPlace, filled, entriesOf}
 use Rattle.outcomes.specs.Sheet.{leadsTo, settledAs, refusedAt, outcomeOf, sheetOf}
 use Rattle.outcomes.specs.SheetLaws.{sheet-refused, sheet-read}
-use Rattle.journal.specs.Answers.{Answer, points, values}
+use Rattle.journal.specs.Answers.{points, values}
 use Rattle.journal.specs.Journal.{journalReport}
 use Rattle.journal.specs.Spelling.{CleanText}
 use Rattle.journal.specs.Reading.{ReadAs}

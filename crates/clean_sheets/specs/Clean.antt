@@ -9,6 +9,7 @@ use lib.Dec.{ltb}
 use lib.IntN.{ℤ, pos, negsuc}
 use lib.ListN.{length}
 use Rattle.rules.specs.declared.Opening.{Opening}
+use Rattle.rules.specs.declared.Answer.{Answer}
 use Rattle.rules.specs.declared.Progress.{Progress}
 use Rattle.rules.specs.declared.Report.{Report}
 use Rattle.rules.specs.Rules.{slots, firstOf, secondOf, nextOf}
@@ -21,7 +22,6 @@ use Rattle.forms.specs.Bytes.{cr, lf, comma, minus}
 use Rattle.lines.specs.Decimal.{decimalOf}
 use Rattle.printing.specs.Printed.{recordOf, placed}
 use Rattle.outcomes.specs.Sheet.{sheetOf}
-use Rattle.journal.specs.Answers.{Answer}
 use Rattle.clean_sheets.specs.declared.Written.{Written}
 use Rattle.clean_sheets.specs.declared.WrittenRow.{WrittenRow}
 

@@ -7,11 +7,11 @@ use native.Mathlib.Omega.{arith}
 use lib.IntN.{ℤ, pos, negsuc, natAbs}
 use lib.ListN.{length, length-append}
 use Rattle.rules.specs.declared.Opening.{Opening}
+use Rattle.rules.specs.declared.Answer.{Answer}
 use Rattle.rules.specs.declared.Progress.{Progress}
 use Rattle.rules.specs.RefusalsLaws.{Ranged, Opened}
 use Rattle.rules.specs.Search.{takeOf}
 use Rattle.lines.specs.DecimalLaws.{decimal-length}
-use Rattle.journal.specs.Answers.{Answer}
 use Rattle.journal.specs.SpellingLaws.{Spellable, SpellableAnswers}
 use Rattle.clean_sheets.specs.Clean.{calledAt, withPoints, numberText, answersText, sheetText}
 

@@ -9,9 +9,9 @@ use native.Mathlib.Omega.{arith}
 use lib.IntN.{ℤ, pos, negsuc}
 use lib.ListN.{length}
 use Rattle.rules.specs.declared.Opening.{Opening}
+use Rattle.rules.specs.declared.Answer.{Answer}
 use Rattle.lines.specs.Decimal.{decimalOf}
 use Rattle.lines.specs.DecimalLaws.{by-digits, decimal-one, decimal-more, decimal-prints, decimal-length}
-use Rattle.journal.specs.Answers.{Answer}
 use Rattle.journal.specs.Spelling.{Digits, mostDigits, NoLeadingZero, CleanNumeral, CleanAnswers, CleanText}
 use Rattle.journal.specs.SpellingLaws.{Spellable, SpellableOpening, SpellableAnswers}
 use Rattle.clean_sheets.specs.Clean.{numberText, answersText, sheetText}

@@ -2,10 +2,7 @@
 -- Assumes nothing.
 use mathlib.Core.List.{List, map}
 use lib.IntN.{ℤ}
-
-pub record Answer : Type 0 where
-  pub point : ℤ
-  pub value : ℤ
+use Rattle.rules.specs.declared.Answer.{Answer}
 
 abbrev pub answerPoint : Answer → ℤ
 answerPoint a = a .point

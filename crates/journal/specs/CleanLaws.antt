@@ -15,9 +15,9 @@ use lib.ListN.{length, getD, length-append, List·getD-append}
 use lib.Signed.{leZ}
 use Rattle.integers.specs.SignsLaws.{never}
 use Rattle.rules.specs.declared.Opening.{Opening}
+use Rattle.rules.specs.declared.Answer.{Answer}
 use Rattle.rules.specs.Rules.{slots}
 use Rattle.forms.specs.Bytes.{cr, lf, comma, minus, doubleQuote}
-use Rattle.journal.specs.Answers.{Answer}
 use Rattle.journal.specs.Spelling.{digit, Digits, Numeral, Field, AnswersText, SheetText}
 use Rattle.journal.specs.Spelling.{NoLeadingZero, CleanNumeral, CleanAnswers, CleanText, Clean}
 use Rattle.journal.specs.SpellingLaws.{some-digit, spelled-read, reading}

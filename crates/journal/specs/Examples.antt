@@ -10,6 +10,7 @@ use lib.IntN.{ℤ, pos}
 use lib.ListN.{length, take}
 use Rattle.integers.specs.Digits.{digits, halvings}
 use Rattle.rules.specs.declared.Opening.{Opening}
+use Rattle.rules.specs.declared.Answer.{Answer}
 use Rattle.rules.specs.declared.Bracket.{Bracket}
 use Rattle.rules.specs.declared.Report.{Report}
 use Rattle.rules.specs.declared.Report.the-variants.{Next, Stop, Refused}
@@ -23,7 +24,6 @@ use Rattle.forms.specs.declared.Number.{Number}
 use Rattle.forms.specs.Number.{allDigits, valueFrom, signedOf, numberOf}
 use Rattle.forms.specs.Entries.{integerOf, fieldOf}
 use Rattle.forms.specs.Examples.{bytes, upTo100, negative}
-use Rattle.journal.specs.Answers.{Answer}
 use Rattle.journal.specs.Spelling.{digit, Digits, Numeral, Field, AnswersText, SheetText, CleanNumeral, CleanAnswers, CleanText}
 use Rattle.journal.specs.SpellingLaws.{field-read}
 use Rattle.journal.specs.CleanLaws.{clean-field, one-numeral}

@@ -11,12 +11,12 @@ use lib.IntN.{ℤ, pos, natAbs}
 use lib.ListN.{length}
 use Rattle.integers.specs.Signs.{eqZ}
 use Rattle.rules.specs.declared.Opening.{Opening}
+use Rattle.rules.specs.declared.Answer.{Answer}
 use Rattle.rules.specs.declared.Sample.{Sample}
 use Rattle.rules.specs.declared.Bracket.{Bracket}
 use Rattle.rules.specs.declared.Report.{Report}
 use Rattle.rules.specs.Rules.{largestValue, firstOf, secondOf, startOf, lowerOf, upperOf, Inside, stoppedOf, nextOf, advanceOf}
 use Rattle.rules.specs.Refusals.{hadStopped, notCalledFor, valueOutOfRange, sameSign, sameSide}
-use Rattle.journal.specs.Answers.{Answer}
 
 -- ---- the bracket: from n = 2 on, rules 1 to 8, applied to the answers in order
 

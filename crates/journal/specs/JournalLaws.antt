@@ -13,6 +13,7 @@ use lib.ListN.{length, length-map}
 use Rattle.integers.specs.Signs.{eqZ}
 use Rattle.integers.specs.SignsLaws.{eqZ-true, never}
 use Rattle.rules.specs.declared.Opening.{Opening}
+use Rattle.rules.specs.declared.Answer.{Answer}
 use Rattle.rules.specs.declared.Sample.{Sample}
 use Rattle.rules.specs.declared.Bracket.{Bracket}
 use Rattle.rules.specs.declared.Progress.{Progress}
@@ -22,7 +23,7 @@ use Rattle.rules.specs.RefusalsLaws.{Opened, opposed-crossing}
 use Rattle.rules.specs.Search.{isRefused, beginOf, stoppedAt, sameSideAt, otherAt, enteredAt, offerOf, takeOf, progressOf, bracketReport}
 use Rattle.rules.specs.Search.{reportAt, reportOf, mostOf}
 use Rattle.rules.specs.SearchLaws.{Sound, sound-start, sound-advance, advanced, counts, at-most, before-stop}
-use Rattle.journal.specs.Answers.{Answer, answerValue, values}
+use Rattle.journal.specs.Answers.{answerValue, values}
 use Rattle.journal.specs.Journal.{sampleOf, advancedBy, bracketOf, stopOf, pointCalled, reportWith, journalReport, oneSide, refusalOf}
 use Rattle.journal.specs.Journal.{takes, bracketsFrom, bracketsOf, Nested, Opposed}
 

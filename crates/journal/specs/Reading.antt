@@ -6,10 +6,11 @@ use mathlib.Core.Logic.{_↔_}
 use mathlib.Core.List.{List}
 use lib.ListN.{length}
 use Rattle.rules.specs.declared.Opening.{Opening}
+use Rattle.rules.specs.declared.Answer.{Answer}
 use Rattle.rules.specs.Rules.{slots}
 use Rattle.forms.specs.declared.Form.{Form}
 use Rattle.forms.specs.Entries.{filled, entriesOf}
-use Rattle.journal.specs.Answers.{Answer, points, values}
+use Rattle.journal.specs.Answers.{points, values}
 use Rattle.journal.specs.Spelling.{SheetText}
 
 -- the reader takes a text as this opening and these answers

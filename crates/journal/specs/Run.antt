@@ -11,6 +11,7 @@ use lib.IntN.{natAbs}
 use lib.ListN.{length, take}
 use Rattle.integers.specs.Digits.{Least}
 use Rattle.rules.specs.declared.Opening.{Opening}
+use Rattle.rules.specs.declared.Answer.{Answer}
 use Rattle.rules.specs.declared.Bracket.{Bracket}
 use Rattle.rules.specs.declared.Progress.{Progress}
 use Rattle.rules.specs.declared.Report.{Report}
@@ -23,7 +24,7 @@ use Rattle.held.specs.declared.Search.{Search}
 use Rattle.held.specs.declared.Entered.{Entered}
 use Rattle.held.specs.Held.{freshOf, heldReport, enterOf}
 use Rattle.outcomes.specs.Sheet.{sheetOf}
-use Rattle.journal.specs.Answers.{Answer, values}
+use Rattle.journal.specs.Answers.{values}
 use Rattle.journal.specs.Journal.{stopOf, journalReport, journalAfter, toldAll, bracketsOf, Nested, Opposed}
 use Rattle.journal.specs.Spelling.{SheetText}
 use Rattle.journal.specs.Reading.{ReadAs}

@@ -9,6 +9,7 @@ use borrow.Author.Tests.{eq-eqb}
 use native.Mathlib.Omega.{arith}
 use lib.ListN.{length, take}
 use Rattle.rules.specs.declared.Opening.{Opening}
+use Rattle.rules.specs.declared.Answer.{Answer}
 use Rattle.rules.specs.declared.Report.{Report}
 use Rattle.rules.specs.Rules.{methodOf, allowed}
 use Rattle.rules.specs.Refusals.{openingRefusal, Accepted}
@@ -18,7 +19,7 @@ use Rattle.rules.specs.SearchLaws.{streak-allowed, t-least}
 use Rattle.held.specs.declared.Entered.{Entered}
 use Rattle.held.specs.Held.{freshOf, heldReport}
 use Rattle.outcomes.specs.Sheet.{sheetOf}
-use Rattle.journal.specs.Answers.{Answer, values}
+use Rattle.journal.specs.Answers.{values}
 use Rattle.journal.specs.Journal.{bracketOf, journalReport, journalWith, toldOf, journalAfter, toldAll}
 use Rattle.journal.specs.Spelling.{SheetText}
 use Rattle.journal.specs.Reading.{ReadAs}

@@ -14,6 +14,7 @@ use lib.Seq.{take-at}
 use Rattle.integers.specs.Signs.{eqZ}
 use Rattle.integers.specs.SignsLaws.{eq-eqZ}
 use Rattle.rules.specs.declared.Opening.{Opening}
+use Rattle.rules.specs.declared.Answer.{Answer}
 use Rattle.rules.specs.declared.Sample.{Sample}
 use Rattle.rules.specs.declared.Bracket.{Bracket}
 use Rattle.rules.specs.declared.Progress.{Progress}
@@ -30,7 +31,7 @@ use Rattle.forms.specs.Entries.{filled, entriesOf}
 use Rattle.forms.specs.ReadingLaws.{set-padded}
 use Rattle.outcomes.specs.Sheet.{leadsTo, keptAs, settledAs, sheetOf}
 use Rattle.outcomes.specs.SheetLaws.{outcome-accepted, sheet-read}
-use Rattle.journal.specs.Answers.{Answer, answerValue, points, values}
+use Rattle.journal.specs.Answers.{answerValue, points, values}
 use Rattle.journal.specs.Answers as Answers
 use Rattle.journal.specs.Journal.{sampleOf, advancedBy, bracketOf, pointCalled, journalReport, refusalOf, takes, journalWith, toldOf}
 use Rattle.journal.specs.Run.{holding}

@@ -9,8 +9,8 @@ use mathlib.Core.List.{List, [], _∷_, _++_}
 use lib.ListN.{length, getD}
 use lib.IntN.{ℤ, pos, negℤ}
 use Rattle.rules.specs.declared.Opening.{Opening}
+use Rattle.rules.specs.declared.Answer.{Answer}
 use Rattle.forms.specs.Bytes.{cr, lf, comma, minus, doubleQuote}
-use Rattle.journal.specs.Answers.{Answer}
 
 -- ---- numbers
 

@@ -11,6 +11,7 @@ use lib.ListN.{length, take, length-append, length-map}
 use lib.Seq.{take-at, append-snoc}
 use lib.IntN.{ℤ, pos, negsuc, natAbs}
 use Rattle.rules.specs.declared.Opening.{Opening}
+use Rattle.rules.specs.declared.Answer.{Answer}
 use Rattle.rules.specs.Rules.{slots, padded}
 use Rattle.forms.specs.declared.Number.{Number}
 use Rattle.forms.specs.declared.Form.{Form}
@@ -24,7 +25,7 @@ use Rattle.forms.specs.FieldLaws.{FieldText, joined, number-field, enclosed-fie
 use Rattle.forms.specs.Entries.{fieldOf, filled, entriesOf}
 use Rattle.forms.specs.ReadingLaws.{Spells, openingNumbers, SpellsAnswers, entries-read}
 use Rattle.forms.specs.TakenLaws.{Laid, entries-laid}
-use Rattle.journal.specs.Answers.{Answer, points, values}
+use Rattle.journal.specs.Answers.{points, values}
 use Rattle.journal.specs.Spelling.{digit, Digits, Numeral, Field, AnswersText, SheetText}
 use Rattle.journal.specs.Reading.{ReadAs, Reading}
 

@@ -4,13 +4,13 @@ use Prim.Native.Nat.{ℕ}
 use mathlib.Core.Path.{_≡_, refl, sym, ap, _∙_}
 use mathlib.Core.List.{List, [], _∷_, _++_, map}
 use lib.Seq.{append-snoc}
+use Rattle.rules.specs.declared.Answer.{Answer}
 use Rattle.rules.specs.declared.Sample.{Sample}
 use Rattle.rules.specs.declared.Bracket.{Bracket}
 use Rattle.rules.specs.Rules.{startOf, widthOf, partnerOf, streakOf, renewedOf, advanceOf}
 use Rattle.rules.specs.RulesLaws.{advance-by, advance-counts, start-counts}
 use Rattle.rules.specs.Streak.{streakOver}
 use Rattle.rules.specs.StreakLaws.{streak-first, streak-more}
-use Rattle.journal.specs.Answers.{Answer}
 use Rattle.journal.specs.Journal.{sampleOf, advancedBy, bracketOf, bracketsFrom, bracketsOf}
 
 -- after the brackets of other widths

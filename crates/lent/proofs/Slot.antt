@@ -14,42 +14,40 @@ use mir.Syntax.{deref, field, copy, int, rvOpd, op2, addrOf, assign, call, seq, 
 use mir.Fields.{setV}
 use prog.Memory.{fieldsOf}
 use mir.Val.{Val, ofList, vint, vptr, vstruct, vcons, vnil, ofZ}
-use base.Logic.{SProp, ent, sep, emp, via, fst∗, id⊢}
-use base.Fml.{GName, Lft, Share, ftrue, flft, fobs, fbor, fat}
+use base.Logic.{SProp, ent, emp, via, fst∗, id⊢}
+use base.Fml.{GName, Lft, Share, ftrue, flft, fat}
 use prog.Wp.{Heap, Calls, Loops, WpFn, Closed}
 use ghost.Atoms.{Atoms, sem}
 use prog.Model.{Model}
 use prog.Routine.{Routine, Env}
 use contract.Lifetimes.{Lfts}
-use contract.Monad.{fact}
 use contract.Running.{GhostRules, Running, givenOf, tables}
-use types.Kit.{Given, ‵, raw, _⊛_, _$_, _∵_, !, qed, by, move, keep, drop, use1, split, join, fsplit, fsplit3, fjoin, fjoin3, feqI, rewrite, suffices}
-use types.Kit.{frame, done}
+use types.Kit.{Given, ‵, raw, _⊛_, _$_, _∵_, !, qed, by, move, keep, drop, use1, split, fsplit, fsplit3, rewrite}
 use types.Run.{look, look-raw, init, forget, stop, hop, fld, from, load, lit, bin, addr, and-then, no-more, of-opd, assigns, land, returns, enter}
 use types.Run.{alloc1, alloc0, params1, pass1, pass0, free1, free0}
 use types.Part.{whole, sub, look-in, store-in}
-use types.SemTy.{Body}
 use sound.WpLaws.{FmC}
 use denote.RattleType.{RattleType, owns}
-use denote.Laws.{Is, Tells, Lawful}
-use denote.Memory.{mem, pointee, cellAt}
+use denote.Laws.{Is, Ises, Tells, Lawful, owns-make}
+use denote.Memory.{pointee, cellAt}
 use denote.Array.{each}
 use denote.Shadow.{shadow}
 use denote.Struct.Laws as SL
 use denote.Struct.Field.{i32-field}
-use denote.Signed.{sint-vals, sint-tells, sint-lawful}
+use denote.Signed.{sint-vals, sint-tells, sint-lawful, sint-makes}
 use denote.Builtin.{i32}
 use denote.Ref.{RefT, MutRef, now, ptr-vals, mut-tells}
-use denote.Signature.{plain, mutRefTo}
-use denote.Steps.{owned, nothing, only}
+use denote.Steps.{only}
 use denote.Triple.Statement.{Contract, Triple}
 use denote.Triple.Call.{calls-at}
 use denote.Triple.Entry.{Args, onEntry}
 use denote.Triple.Spec.{tripleOf}
-use denote.Triple.Walked.{Stays, stay-ref, walkOf, AllGo, goes-ref, Walks, ends-at, walked}
+use denote.Triple.Walked.{Stays, walkOf, AllGo, goes-ref, Walks, walked}
 use denote.Triple.Clauses.{Ended, Clauses, atExit, closing}
 use denote.Exit.{yes}
-use Rattle.lent.proofs.Walk.{at-one, Plain, row, vals, number, number-stays, number-goes, holds, taken-out, put-back, answered, by-one-call}
+use Rattle.borrowed.proofs.Walk.{at-one, Plain, i32-plain, row, vals, value, value-stays, value-goes, taken-out, put-back, answered}
+use Rattle.borrowed.proofs.Walk.{by-one-call}
+use Rattle.borrowed.proofs.Contracts.{by-value, lent, lent-stays, returning, Returning, to-step, asks, ends-lent}
 use Rattle.held.specs.declared.Search.{Search}
 use Rattle.rules.specs.Rules.{slots}
 use Rattle.held.proofs.Search as S
@@ -170,40 +168,22 @@ module _ (R : Plain) (E : Verdicts R) (L : VerdictLaws E) where
       }
 
   abbrev pub ended : Ended
-  ended =
-      record {
-        signature = record {
-          lifetimes = 1;
-          outlives = [];
-          params = mutRefTo (0 ∷ []) tt (plain (λ κs. row search)) ∷ plain (λ κs. i32) ∷ plain (λ κs. i32) ∷ [];
-          result = plain (λ κs. row R);
-        };
-        kept = (yes, (yes, (yes, tt)));
-      }
-
-  abbrev step-ended : Ended
-  step-ended =
-      record {
-        signature = record {
-          lifetimes = 0;
-          outlives = [];
-          params = plain (λ κs. row search) ∷ plain (λ κs. i32) ∷ plain (λ κs. i32) ∷ [];
-          result = plain (λ κs. rowE E);
-        };
-        kept = (yes, (yes, (yes, tt)));
-      }
+  ended = lent search R (value i32-plain ∷ value i32-plain ∷ []) (yes, (yes, tt))
 
   abbrev pub stayed : Stays (ended .signature .params) (ended .kept)
-  stayed = (stay-ref (0 ∷ []) tt (plain (λ _. row search)), (number-stays, (number-stays, tt)))
+  stayed = lent-stays search R (value i32-plain ∷ value i32-plain ∷ []) (yes, (yes, tt)) (value-stays i32-plain, (value-stays i32-plain, tt))
+
+  abbrev step-ended : Ended
+  step-ended = by-value search (rowE E) (value i32-plain ∷ value i32-plain ∷ []) (yes, (yes, tt))
 
   -- `of` is the step's definition, which names a slot
   module _ (of : Search → ℤ → ℤ → E .type .Denot) (within : (h : Search) (p z : ℤ) → length (h .slots) ≡ slots → E .at (of h p z) < slots)
       {M : Type 1} (𝓤 : URA M) (H : Heap 𝓤) (A : Atoms 𝓤) where
-    abbrev step-clauses : Clauses 𝓤 step-ended
-    step-clauses κs a = record { ghost = Unit {0}; requires = λ _. emp 𝓤; ensures = λ _ r end. fact 𝓤 (r ≡ of (a .0) (a .1 .0) (a .1 .1 .0)) }
+    abbrev by-of : (κs : Lfts 0) (a : Args (step-ended .signature) κs) → E .type .Denot
+    by-of κs a = of (a .0) (a .1 .0) (a .1 .1 .0)
 
     abbrev StepC : Contract 𝓤
-    StepC = tripleOf 𝓤 H A (step-ended .signature) (closing 𝓤 H A step-ended step-clauses)
+    StepC = Returning 𝓤 H A step-ended by-of
 
     -- c is the function's contract, which holds where it returns what `of` tells and leaves the search with what `of` says stored
     abbrev Holds : Clauses 𝓤 ended → Type 1
@@ -226,27 +206,17 @@ module _ (R : Plain) (E : Verdicts R) (L : VerdictLaws E) where
         abbrev Post : Val → SProp 𝓤
         Post = walkOf 𝓤 H A ended stayed c .post (((κ, tt), (q, tt), tt, x, at), g)
 
-        -- what the step's triple binds outside, and what it asks
-        abbrev to-step : StepC .Ghost
-        to-step = ((tt, tt, tt, (h, (p, (z, tt))), (vals search h, (sint-vals w32 p, (sint-vals w32 z, tt)))), tt)
+        abbrev call-at : StepC .Ghost
+        call-at =
+            to-step 𝓤 H A search (rowE E) (value i32-plain ∷ value i32-plain ∷ []) (yes, (yes, tt)) by-of h (p, (z, tt)) (
+              sint-vals w32 p,
+              (sint-vals w32 z, tt),
+            )
 
-        goes-step : ent 𝓤 (sem 𝓤 H A (row search .own h (vals search h))) (StepC .pre to-step)
-        goes-step =
-            qed W (‵ (row search .own h (vals search h)) ∷ []) ∵ nothing ! $ number ! z z-is $ number ! p p-is $ move ! (1 ∷ 0 ∷ []) $ fjoin ! $
-            nothing ! $ join ! $ frame ! $ done !
-
-        -- the exit, at what the step returned
-        exits : length (h .slots) ≡ slots → (r : E .type .Denot) → r ≡ of h p z → Is (row R) (E .told r) (vals R (E .told r))
-            → ent 𝓤 (sep 𝓤 (A .obs γ (row search .coded .code (stored E h r))) (sep 𝓤 (A .bor κ (Body (mem (row search)) b o γ)) (A .lft κ q)))
-            (Post (R .val (E .told r)))
-        exits l r e is =
-            qed W (‵ (fobs γ (row search .coded .code (stored E h r))) ∷ ‵ (fbor κ (Body (mem (row search)) b o γ)) ∷ ‵ (flft κ q) ∷ []) ∵
-            suffices ! _ (ends-at 𝓤 H A ended stayed c W (((κ, tt), (q, tt), tt, x, at), g) (R .val (E .told r)) (E .told r)
-            (stored E h r, (tt, (tt, tt))) (tt, (tt, (tt, tt)))) $
-            holds ! (unanswered (κ, tt) x g l r e) $ nothing ! $ move ! (3 ∷ 0 ∷ []) $ join ! $ frame ! $
-            feqI ! (List Val) (vptr b o ∷ []) (vptr b o ∷ []) refl $ fjoin3 ! $ nothing ! $ number ! z z-is $ number ! p p-is $
-            move ! (1 ∷ 0 ∷ []) $ fjoin ! $ frame ! $
-            owned ! (row R) (Is (row R)) (R .makes 𝓤 H A) (E .told r) _ is $ done !
+        had : ent 𝓤 (emp 𝓤) (sem 𝓤 H A (owns (i32 ∷ i32 ∷ []) (p, (z, tt)) (sint-vals w32 p, (sint-vals w32 z, tt))))
+        had =
+            owns-make 𝓤 H A (i32 ∷ i32 ∷ []) (Ises (i32 ∷ i32 ∷ [])) (sint-makes 𝓤 H A W w32, (sint-makes 𝓤 H A W w32, tt)) (p, (z, tt))
+            (sint-vals w32 p, (sint-vals w32 z, tt)) (p-is, (z-is, tt))
 
         -- the machine's slots
         abbrev us : List Val
@@ -284,10 +254,14 @@ module _ (R : Plain) (E : Verdicts R) (L : VerdictLaws E) where
               assigns ! (of-opd ! (load ! (from ! (hop ! (look ! 23 refl) (stop !))) (look-raw ! 0 refl))) (from ! (stop !))
               (init ! 13 refl (search .lawful 𝓤 H A W .typed h _ was .0)) $
               -- the call: what the copy owns goes to it
-              move ! (1 ∷ []) $ use1 W (raw (StepC .pre to-step)) goes-step $
-              calls-at ! fm StepC known to-step (and-then ! (load ! (from ! (stop !)) (look ! 13 refl))
+              move ! (1 ∷ []) $ use1 W (raw (StepC .pre call-at))
+              (asks 𝓤 H A search (rowE E) (value i32-plain ∷ value i32-plain ∷ []) (yes, (yes, tt)) by-of h (p, (z, tt)) (
+                sint-vals w32 p,
+                (sint-vals w32 z, tt),
+              ) W had) $
+              calls-at ! fm StepC known call-at (and-then ! (load ! (from ! (stop !)) (look ! 13 refl))
               (and-then ! (load ! (from ! (stop !)) (look ! 21 refl)) (and-then ! (load ! (from ! (stop !)) (look ! 19 refl)) (no-more !)))) (λ w.
-              answered ! tt step-ended step-clauses to-step w (λ (r : E .type .Denot). r ≡ of h p z) (λ r ws. id⊢ 𝓤 _) (λ r e is.
+              answered ! tt step-ended (returning 𝓤 H A step-ended by-of) call-at w (λ (r : E .type .Denot). r ≡ of h p z) (λ r ws. id⊢ 𝓤 _) (λ r e is.
               -- [what the step's result owns; the cell (1); the open borrow; obs; auth; true; what the numbers own; _9 (7); …]
               land ! (from ! (stop !)) (init ! 17 refl (L .lawful 𝓤 H A W .typed r _ is .0)) $
               rewrite ! 17 (λ (u : Val). ‵ (fat fullShare (mirE E) l₄ 0 u)) (ap only (L .tells r (w ∷ []) is)) refl $
@@ -319,7 +293,9 @@ module _ (R : Plain) (E : Verdicts R) (L : VerdictLaws E) where
               move ! (23 ∷ 24 ∷ []) $ free1 ! $ move ! (21 ∷ 22 ∷ []) $ free1 ! $ move ! (19 ∷ 20 ∷ []) $ free1 ! $ move ! (17 ∷ 18 ∷ []) $
               free1 ! $ move ! (15 ∷ 16 ∷ []) $ free1 ! $ move ! (13 ∷ 14 ∷ []) $ free1 ! $ move ! (11 ∷ 12 ∷ []) $ free1 ! $
               move ! (9 ∷ 10 ∷ []) $ free1 ! $ move ! (7 ∷ 8 ∷ []) $ free1 ! $ move ! (5 ∷ 6 ∷ []) $ free1 ! $ free0 ! $
-              keep ! (0 ∷ 1 ∷ 2 ∷ []) $ by ! (exits (long h was) r e (L .is-told r _ is)))))))))))))))
+              keep ! (0 ∷ 1 ∷ 2 ∷ []) $ by ! (ends-lent 𝓤 H A W search R (value i32-plain ∷ value i32-plain ∷ []) (yes, (yes, tt))
+              (value-stays i32-plain, (value-stays i32-plain, tt)) κ q b o γ h (p, (z, tt)) (sint-vals w32 p, (sint-vals w32 z, tt)) (tt, (tt, tt))
+              (tt, (tt, tt)) had c g (stored E h r) (E .told r) (L .is-told r _ is) (unanswered (κ, tt) x g (long h was) r e)))))))))))))))
 
       walks : (W : Given 𝓤 H A) (step : Name) (C : Calls 𝓤 H) (Λ : Loops 𝓤 H) → FmC 𝓤 H (W .laws) C → Triple 𝓤 (C step) StepC
           → Walks 𝓤 H A ended stayed (WpFn 𝓤 H C Λ (function step)) c
@@ -331,7 +307,7 @@ module _ (R : Plain) (E : Verdicts R) (L : VerdictLaws E) where
           (are .1 .1 .0) g step C Λ fm known))
 
   goes : {M : Type 1} (𝓤 : URA M) (H : Heap 𝓤) (A : Atoms 𝓤) (W : Given 𝓤 H A) → AllGo 𝓤 H A W 1 (ended .signature .params) (ended .kept) stayed
-  goes 𝓤 H A W = (goes-ref 𝓤 H A W 1 0 tt (plain (λ _. row search)), (number-goes 𝓤 H A W 1, (number-goes 𝓤 H A W 1, tt)))
+  goes 𝓤 H A W = (goes-ref 𝓤 H A W 1 0 tt (value search), (value-goes 𝓤 H A W 1 i32-plain, (value-goes 𝓤 H A W 1 i32-plain, tt)))
 
   -- k is the function's name, and γ the names that it calls; `step` is the step's, and r its code
   module _ (of : Search → ℤ → ℤ → E .type .Denot) (within : (h : Search) (p z : ℤ) → length (h .slots) ≡ slots → E .at (of h p z) < slots)

@@ -5,9 +5,10 @@ use mathlib.Core.Path.{_≡_}
 use mathlib.Core.List.{List}
 use lib.IntN.{ℤ, pos}
 use lib.ListN.{getD}
+use Rattle.rules.specs.Rows.{writtenOver}
 use Rattle.held.specs.declared.Search.{Search}
 use Rattle.journal.specs.Run.{Call, reportsOf, searchAfter}
-use Rattle.replay.specs.Replay.{callWith, callsIn, writtenOver}
+use Rattle.replay.specs.Replay.{callWith, callsIn}
 
 -- the call at a place of the lists
 abbrev pub callAt : List ℕ → List ℤ → List ℤ → ℕ → Call

@@ -1,18 +1,18 @@
 -- A run of calls written down in lists, and what `replay` promises of it, in the words of the journal.
 -- Assumes nothing.
-use Prim.Native.Nat.{ℕ, zero, suc, _*_, _/_}
+use Prim.Native.Nat.{ℕ, zero, suc, _/_}
 use mathlib.Core.Path.{_≡_}
 use mathlib.Core.Bool.{cond}
-use mathlib.Core.List.{List, [], _∷_, _++_, map}
+use mathlib.Core.List.{List, [], _∷_, map}
 use lib.Dec.{eqb}
 use lib.IntN.{ℤ}
-use lib.ListN.{length, drop}
+use lib.ListN.{length}
 use Rattle.rules.specs.declared.Opening.{Opening}
+use Rattle.rules.specs.declared.Answer.{Answer}
 use Rattle.rules.specs.declared.Report.{Report}
 use Rattle.rules.specs.Refusals.{openingRefusal, Accepted}
-use Rattle.rules.specs.Rows.{rowOf, rowNumbers, numbersEach}
+use Rattle.rules.specs.Rows.{numbersEach, writtenOver}
 use Rattle.held.specs.Held.{blank}
-use Rattle.journal.specs.Answers.{Answer}
 use Rattle.journal.specs.Journal.{journalReport, toldAll}
 use Rattle.journal.specs.Run.{Call, byValue, into, offered, journalOf, holding, Run}
 use Rattle.replay.specs.declared.Replayed.{Replayed}
@@ -34,17 +34,6 @@ callsUpTo (suc n) (k ∷ ks) (x ∷ xs) (v ∷ vs) = callWith k (record { point 
 -- as many calls as the lent list has room for their reports, each written as the numbers of its row
 abbrev pub callsIn : List ℕ → List ℤ → List ℤ → List ℕ → List Call
 callsIn ks xs vs list = callsUpTo (length list / numbersEach) ks xs vs
-
--- ---- the reports
-
--- the rows of each, one after the other
-unfoldable pub rowsOf : List Report → List ℕ
-rowsOf [] = []
-rowsOf (r ∷ rs) = rowNumbers (rowOf r) ++ rowsOf rs
-
--- they stand at the beginning of the list, whose further numbers keep their contents
-abbrev pub writtenOver : List Report → List ℕ → List ℕ
-writtenOver rs list = rowsOf rs ++ drop (numbersEach * length rs) list
 
 -- ---- what is promised
 

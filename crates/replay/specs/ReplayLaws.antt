@@ -13,13 +13,14 @@ use Rattle.rules.specs.declared.Opening.{Opening}
 use Rattle.rules.specs.declared.Report.{Report}
 use Rattle.rules.specs.Refusals.{openingRefusal, Accepted}
 use Rattle.rules.specs.Search.{beginOf, progressOf, reportAt, isRefusal, reportOf}
+use Rattle.rules.specs.Rows.{writtenOver}
 use Rattle.held.specs.declared.Search.{Search}
 use Rattle.held.specs.declared.Entered.{Entered}
 use Rattle.held.specs.Held.{freshOf, reopenOf, openOf}
 use Rattle.journal.specs.Journal.{pointCalled, journalReport}
 use Rattle.journal.specs.Run.{Call, searchAfter, reportsOf}
 use Rattle.journal.specs.RunHolds.{run}
-use Rattle.replay.specs.Replay.{callsIn, writtenOver, replayOf, listAfter, Replays}
+use Rattle.replay.specs.Replay.{callsIn, replayOf, listAfter, Replays}
 use Rattle.replay.specs.Calls.{CallsMade}
 
 module _ (o : Opening) where

@@ -11,3 +11,4 @@ pub mod Trials
 pub mod Branches
 mod Examples
 pub mod Rows
+pub mod RowsLaws

@@ -1,8 +1,9 @@
 -- A report and a quote as plain numbers, for C and for lists of numbers: the kind, then each number under its own name, and 0 for those
 -- that the kind has not.
 -- Assumes nothing.
-use Prim.Native.Nat.{ℕ}
-use mathlib.Core.List.{List, [], _∷_}
+use Prim.Native.Nat.{ℕ, _*_}
+use mathlib.Core.List.{List, [], _∷_, _++_}
+use lib.ListN.{length, drop}
 use Rattle.rules.specs.declared.Report.{Report}
 use Rattle.rules.specs.declared.Row.{Row}
 use Rattle.rules.specs.declared.Quote.{Quote}
@@ -45,6 +46,17 @@ rowNumbers w =
 -- how many they are
 abbrev pub numbersEach : ℕ
 numbersEach = 8
+
+-- ---- the numbers of several reports, in a lent list
+
+-- the rows of each, one after the other
+unfoldable pub rowsOf : List Report → List ℕ
+rowsOf [] = []
+rowsOf (r ∷ rs) = rowNumbers (rowOf r) ++ rowsOf rs
+
+-- they stand at the beginning of the list, whose further numbers keep their contents
+abbrev pub writtenOver : List Report → List ℕ → List ℕ
+writtenOver rs list = rowsOf rs ++ drop (numbersEach * length rs) list
 
 -- ---- the numbers of a quote: t and the most answers, or a refusal
 

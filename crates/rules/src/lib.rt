@@ -41,6 +41,13 @@ pub const MALFORMED: u32 = 12;
 // A buffer that a clean sheet is to be written into: shorter than the sheet.
 pub const BUFFER_TOO_SHORT: u32 = 13;
 
+// A dispatcher: dryer not 0 to 5; an answer for a dryer that has not the turn; an opening for a dryer whose search is accepted and unfinished.
+pub const NO_SUCH_DRYER: u32 = 14;
+
+pub const NOT_ITS_TURN: u32 = 15;
+
+pub const STILL_SEARCHING: u32 = 16;
+
 // An opening: the method, the first end x0, the second end x1 and the tolerance. A sheet may hold any of them out of range.
 #[repr(C)]
 pub struct Opening {
@@ -48,6 +55,13 @@ pub struct Opening {
     pub first: i32,
     pub second: i32,
     pub tolerance: i32,
+}
+
+// An answer: the point of a trial, and the value that came out. Either may be out of range.
+#[repr(C)]
+pub struct Answer {
+    pub point: i32,
+    pub value: i32,
 }
 
 // Algorithms M and R of Bus and Dekker.

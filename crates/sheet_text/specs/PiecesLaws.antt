@@ -14,9 +14,9 @@ use lib.Seq.{length-take-le, take-at, drop-at, drop-drop, take-append-seam, set-
 use lib.Signed.{ltZ}
 use Rattle.integers.specs.SignsLaws.{never}
 use Rattle.rules.specs.declared.Opening.{Opening}
+use Rattle.rules.specs.declared.Answer.{Answer}
 use Rattle.forms.specs.Bytes.{cr, lf, comma, minus}
 use Rattle.lines.specs.Decimal.{decimalOf}
-use Rattle.journal.specs.Answers.{Answer}
 use Rattle.clean_sheets.specs.Clean.{numberText, answersText, sheetText}
 use Rattle.sheet_text.specs.Pieces.{fieldText, openingText, answerText, spliced, Puts}
 

@@ -1,6 +1,7 @@
 // trials: reads trials from standard input, each a line that begins with % and then a trial sheet, and prints what is told of it: by the
 // reader of sheets; and, where its form is right, by the search over the list of its values, by held searches into which its answers are
-// entered in turn, by value and into one's own, and by a replay of the same answers in a mixture of both kinds.
+// entered in turn, by value and into one's own, and by a replay of the same answers in a mixture of both kinds. After them it prints what
+// is told of searches that hold anything, and of a run of calls to a dispatcher.
 ghost use Prim.Native.Nat.{_≤_};
 ghost use mathlib.Core.Path.{_≡_};
 ghost use lib.ListN.{length};
@@ -176,6 +177,66 @@ fn try_junk(count: u32) {
     show(b"value ", report);
 }
 
+// Eleven calls to a fresh dispatcher, with room for the reports of ten: openings for dryers 4, 1 and 2; an answer out of turn, one at another
+// point, and one for dryer 1, which has the turn; openings for an unfinished search, with equal ends, and for dryer 6; an answer for dryer 2.
+// Then the last served, the count, and whose turn it is.
+fn try_dispatcher() {
+    let kinds = [0u8, 0, 0, 1, 1, 1, 0, 0, 0, 1, 1];
+    let dryers = [4u32, 1, 2, 4, 1, 1, 1, 0, 6, 2, 4];
+    let numbers = [
+        1i32,
+        0,
+        100,
+        1,
+        1,
+        0,
+        100,
+        1,
+        1,
+        0,
+        100,
+        1,
+        0,
+        1,
+        0,
+        0,
+        7,
+        1,
+        0,
+        0,
+        0,
+        1,
+        0,
+        0,
+        1,
+        0,
+        100,
+        1,
+        1,
+        5,
+        5,
+        1,
+        1,
+        0,
+        100,
+        1,
+        0,
+        1,
+        0,
+        0,
+        0,
+        1,
+        0,
+        0,
+    ];
+    let mut rows = [9u32; 10 * dispatch_runs::NUMBERS_EACH];
+    let after = dispatch_runs::make_calls(dispatch::fresh(), &kinds, &dryers, &numbers, &mut rows);
+    show_rows(&rows);
+    show_number(after.last, b',');
+    show_number(after.count, b',');
+    show_number(dispatch_numbers::step_turn(after), b'\n');
+}
+
 fn main() {
     let mut text = [0u8; ENOUGH];
     let n = io::read_full(0, &mut text);
@@ -184,4 +245,9 @@ fn main() {
     try_junk(73);
     try_junk(2);
     try_junk(1);
+    io::write_all(
+        1,
+        b"% calls to a dispatcher, the last served, the count and the turn\n",
+    );
+    try_dispatcher();
 }

@@ -1,7 +1,7 @@
 -- `busdekker::busdekker_open` meets its contract: it copies the host's search out whole, calls `step_open` and stores back whole the search
--- that it returns, so `Whole.antt` of crate `lent` says what it returns and leaves.
+-- that it returns, so `Whole.antt` of crate `borrowed` says what it returns and leaves.
 -- Assumes nothing.
-use mathlib.Core.Path.{refl, ap}
+use mathlib.Core.Path.{ap}
 use base.Logic.{emp}
 use contract.Monad.{factI}
 use Rattle.rules.specs.declared.Opening.{Opening}
@@ -15,8 +15,8 @@ use Rattle.busdekker.proofs.busdekker_open as f
 use Rattle.busdekker.proofs.busdekker_open.Key as key
 use Rattle.busdekker.proofs.busdekker_open.Statement as stated
 use Rattle.busdekker.proofs.busdekker_open.Code as code
-use Rattle.lent.proofs.Types.{opening}
-use Rattle.lent.proofs.Whole.{stores-whole}
+use Rattle.borrowed.proofs.Whole.{stores-whole}
+use Rattle.lent.proofs.Types.{search, opening}
 use Rattle.busdekker.proofs.Types.{plain-row, beside, beside-laws}
 
 abbrev stepOf : Search → Opening → Answered
@@ -25,6 +25,6 @@ stepOf s o = answeredOf (reopenOf s o)
 pub busdekker-open-spec : {M : Type 1} → stated.statement M
 unfolding code.routine
 busdekker-open-spec 𝓤 H 𝓜 𝓖 𝓡 =
-    stores-whole plain-row opening (λ p. tt) beside beside-laws (λ p f. refl) stepOf 𝓤 H 𝓜 𝓖 𝓡 (f.clauses 𝓤 H (𝓖 .A) (𝓜 .mem) (𝓡 .run))
+    stores-whole search plain-row opening beside beside-laws stepOf 𝓤 H 𝓜 𝓖 𝓡 (f.clauses 𝓤 H (𝓖 .A) (𝓜 .mem) (𝓡 .run))
     (λ κs a g r e. factI 𝓤 _ (emp 𝓤) (ap (λ (y : Answered). y .report) e, ap (λ (y : Answered). y .search) e))
     code.env key.name step.name (code.unfolded 𝓤 H 𝓜 𝓡) step.routine code.calls-numbered·step-open (step-thm.met 𝓤 H 𝓜 𝓖 𝓡)

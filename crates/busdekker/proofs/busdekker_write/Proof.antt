@@ -32,7 +32,6 @@ use denote.Ref.{RefT, ShrRef, ptr-vals, shr-tells}
 use denote.Slice.{sliceVal, MutSlice, Room, finally, slice-vals, mut-slice-tells}
 use denote.Signature.{plain}
 use denote.Steps.{shuts, owned, nothing}
-use denote.Struct.Laws as LL
 use denote.Triple.Statement.{Contract, Triple}
 use denote.Triple.Call.{calls-at}
 use denote.Triple.Entry.{onEntry}
@@ -42,8 +41,6 @@ use denote.Exit.{yes}
 use Rattle.held.specs.declared.Search.{Search}
 use Rattle.clean_sheets.specs.declared.WrittenRow.{WrittenRow}
 use Rattle.clean_sheets.specs.Clean.{writtenOf, bufferOf, writtenRowOf}
-use Rattle.held.proofs.Search as S
-use Rattle.held.proofs.Search.Laws as S′
 use Rattle.numbered.proofs.step_write as step
 use Rattle.numbered.proofs.step_write.Symbol as step-def
 use Rattle.numbered.proofs.step_write.Symbol.{name as #step}
@@ -52,7 +49,7 @@ use Rattle.busdekker.proofs.busdekker_write.Key.{name as #of}
 use Rattle.busdekker.proofs.busdekker_write as f
 use Rattle.busdekker.proofs.busdekker_write.Statement as stated
 use Rattle.busdekker.proofs.busdekker_write.Code as code
-use Rattle.lent.proofs.Walk.{row, vals, looked-into, returned, by-one-call}
+use Rattle.borrowed.proofs.Walk.{row, vals, looked-into, returned, by-one-call}
 use Rattle.lent.proofs.Types.{search}
 use Rattle.busdekker.proofs.Types.{written-row}
 
@@ -122,7 +119,7 @@ module _ {M : Type 1} (𝓤 : URA M) (H : Heap 𝓤) (A : Atoms 𝓤) (W : Given
         pass1 ! (init ! 8 refl (tt, tt)) $ pass1 ! (init ! 6 refl (tt, (tt, (record { fits = room .0 }, tt)))) $ pass0 ! $
         -- [_5; …; _4; …; _3; …; _2; …; _1; …; room for _0; …; the tokens and true; what the parameters own]
         move ! (13 ∷ []) $ fsplit ! $ fsplit3 ! $ drop ! $ move ! (15 ∷ []) $ split ! $ move ! (3 ∷ 0 ∷ []) $
-        looked-into search ! tt (LL.copy S.the-type S′.the-copy 𝓤 H A W) h b o (λ p was.
+        looked-into search ! tt h b o (λ p was.
         -- [a share of the struct's cell; what a Search owns; what shuts it; the fractured borrow; the buffer's token and true; res; what the
         -- buffer owns; _5 (7); …; _4 (9); …; _3 (11); …; _2 (13); …; _1 (15); …; room for _0 (17); …]
         assigns ! (of-opd ! (load ! (from ! (hop ! (look ! 15 refl) (stop !))) (look-raw ! 0 refl))) (from ! (stop !))
@@ -135,7 +132,7 @@ module _ {M : Type 1} (𝓤 : URA M) (H : Heap 𝓤) (A : Atoms 𝓤) (W : Given
         (and-then ! (load ! (from ! (fld ! refl (stop !))) (look-in ! 11 (sub ! 1 refl (whole !)))) (no-more !)))) (from ! (stop !))
         (init ! 5 refl (tt, (tt, (record { fits = room .0 }, tt)))) $
         -- the call: what the copy owns goes to it, and the buffer with its token
-        owned ! (row search) (Is (row search)) (search .makes 𝓤 H A) h _ was $ move ! (0 ∷ 5 ∷ []) $ fjoin ! $ move ! (3 ∷ 0 ∷ []) $
+        owned ! (row search) (Is (row search)) (search .makes 𝓤 H A W) h _ was $ move ! (0 ∷ 5 ∷ []) $ fjoin ! $ move ! (3 ∷ 0 ∷ []) $
         use2 W (raw (Step 𝓤 H A at-mem run .pre to-step)) goes-step $
         -- [what the call asks; the search's token; the fractured borrow; res; _5 (4); …; _4 (6); …; _3 (8); …; _2 (10); …; _1 (12); …;
         -- room for _0 (14); …]

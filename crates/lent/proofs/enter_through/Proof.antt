@@ -41,9 +41,8 @@ use denote.Triple.Statement.{Contract, Triple}
 use denote.Triple.Call.{calls-at}
 use denote.Triple.Entry.{onEntry}
 use denote.Triple.Spec.{tripleOf}
-use denote.Triple.Walked.{says, Stays, stay-none, walkOf, AllGo, goes-none, Walks, ends-at, walked}
+use denote.Triple.Walked.{says, Stays, walkOf, AllGo, Walks, ends-at, walked}
 use denote.Triple.Clauses.{ensured, lasts}
-use denote.Exit.{yes}
 use Rattle.held.specs.Held.{enterOf}
 use Rattle.held.specs.declared.Search.{Search}
 use Rattle.rules.specs.declared.Report.{Report}
@@ -60,15 +59,15 @@ use Rattle.lent.proofs.enter_through.Key.{name as #through}
 use Rattle.lent.proofs.enter_through as f
 use Rattle.lent.proofs.enter_through.Statement as stated
 use Rattle.lent.proofs.enter_through.Code as code
-use Rattle.lent.proofs.Walk.{Plain, row, vals, struct, number, number-stays, number-goes, by-one-call}
+use Rattle.borrowed.proofs.Walk.{Plain, row, vals, struct, i32-plain, value-stays, value-goes, had, by-one-call}
 use Rattle.lent.proofs.Types.{search, report}
 
 abbrev stayed : Stays (f.ended .signature .params) (f.ended .kept)
-stayed = (stay-none (λ _. row search) yes, (number-stays, (number-stays, tt)))
+stayed = (value-stays search, (value-stays i32-plain, (value-stays i32-plain, tt)))
 
 -- the two together, as the function returns them
 abbrev both : Plain
-both = struct E.the-type E′.the-laws E′.the-plain
+both = struct E.the-type E′.the-laws E′.the-plain refl
 
 -- what whoever holds a report knows of it, at its machine value written out
 is-report : (n : Report) (vs : List Val) → Is (row report) n vs → Is (row report) n (vals report n)
@@ -85,7 +84,7 @@ module _ {M : Type 1} (𝓤 : URA M) (H : Heap 𝓤) (A : Atoms 𝓤) (W : Given
   lies-in is =
       qed W (‵ (fat fullShare (search .mir) b o (search .val h)) ∷ []) ∵
       use1 W (‵ (cellAt fullShare (row search .mir) (vals search h) b o)) (W .laws .at-raw fullShare (search .mir) b o (search .val h)) $
-      owned ! (row search) (Is (row search)) (search .makes 𝓤 H A) h _ is $ move ! (1 ∷ 0 ∷ []) $ fjoin ! $
+      owned ! (row search) (Is (row search)) (search .makes 𝓤 H A W) h _ is $ move ! (1 ∷ 0 ∷ []) $ fjoin ! $
       fpack ! (List Val) (λ us. fsep (cellAt fullShare (row search .mir) us b o) (row search .own h us)) (vals search h) $ done !
 
   lies-out : ent 𝓤 (sem 𝓤 H A (mem (row search) .lies h b o)) (guard 𝓤 (Is (row search) h (vals search h)) (H .at fullShare (search .mir) b o (search .val h)))
@@ -117,7 +116,7 @@ module _ {M : Type 1} (𝓤 : URA M) (H : Heap 𝓤) (A : Atoms 𝓤) (W : Given
   goes-into b ν δ =
       qed W (‵ (flft (ν ∷ []) fullShare) ∷ ‵ (MutRef (named 0) (ν ∷ []) (row search) .own (lent b δ) (vptr b 0 ∷ [])) ∷ []) ∵ nothing ! $
       move ! (1 ∷ 0 ∷ []) $ join ! $ move ! (1 ∷ []) $
-      nothing ! $ number ! z z-is $ number ! p p-is $ move ! (1 ∷ 0 ∷ []) $ fjoin ! $ move ! (1 ∷ 0 ∷ []) $ join ! $ frame ! $ done !
+      nothing ! $ had i32-plain ! z z-is $ had i32-plain ! p p-is $ move ! (1 ∷ 0 ∷ []) $ fjoin ! $ move ! (1 ∷ 0 ∷ []) $ join ! $ frame ! $ done !
 
   -- the exit, at the report and the last value that `enter_into` says
   abbrev result : Report → Search → Entered
@@ -134,9 +133,9 @@ module _ {M : Type 1} (𝓤 : URA M) (H : Heap 𝓤) (A : Atoms 𝓤) (W : Given
       qed W (‵ ftrue ∷ []) ∵
       suffices ! _ (ends-at 𝓤 H A f.ended stayed (f.clauses 𝓤 H A at-mem run) W ((tt, tt, tt, (h, (p, (z, tt))), at), tt) (both .val (result n s))
       (result n s) (tt, (tt, (tt, tt))) (tt, (tt, (tt, tt)))) $
-      says ! (λ i. result (e .0 i) (e .1 i)) $ frame ! $ nothing ! $ number ! z z-is $ number ! p p-is $
-      owned ! (row search) (Is (row search)) (search .makes 𝓤 H A) h _ h-is $ fjoin ! $ frame ! $
-      owned ! (row both) (Is (row both)) (both .makes 𝓤 H A) (result n s) _ (result-is n s n-is s-is) $ done !
+      says ! (λ i. result (e .0 i) (e .1 i)) $ frame ! $ nothing ! $ had i32-plain ! z z-is $ had i32-plain ! p p-is $
+      owned ! (row search) (Is (row search)) (search .makes 𝓤 H A W) h _ h-is $ fjoin ! $ frame ! $
+      owned ! (row both) (Is (row both)) (both .makes 𝓤 H A W) (result n s) _ (result-is n s n-is s-is) $ done !
 
   module _ (C : Calls 𝓤 H) (Λ : Loops 𝓤 H) (fm : FmC 𝓤 H (W .laws) C) (known : Triple 𝓤 (C #into) (Into 𝓤 H A at-mem run)) where
     walk : ent 𝓤 (onEntry 𝓤 H A f.signature tt tt (h, (p, (z, tt))) at)
@@ -204,7 +203,7 @@ module _ {M : Type 1} (𝓤 : URA M) (H : Heap 𝓤) (A : Atoms 𝓤) (W : Given
       (are .1 .1 .0) C Λ fm known))
 
   goes : AllGo 𝓤 H A W 0 (f.signature .params) (f.ended .kept) stayed
-  goes = (goes-none 𝓤 H A W 0 (λ _. row search) yes (λ κs x f. refl), (number-goes 𝓤 H A W 0, (number-goes 𝓤 H A W 0, tt)))
+  goes = (value-goes 𝓤 H A W 0 search, (value-goes 𝓤 H A W 0 i32-plain, (value-goes 𝓤 H A W 0 i32-plain, tt)))
 
 pub enter-through-spec : {M : Type 1} → stated.statement M
 unfolding code.routine

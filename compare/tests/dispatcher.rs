@@ -1,0 +1,327 @@
+//! Worked cases of the dispatcher, tried on the model, on the plain code and on the proved library;
+//! then the model against the plain code on random cases.
+
+use compare::model::Book;
+use compare::rng::Rng;
+use compare::types::{Answer, Dispatcher, Opening, Report, Search, DRYERS, NOBODY};
+use compare::{cases, dispatcher, ffi, plain};
+
+const M: Opening = Opening::new(1, 0, 100, 1);
+const R: Opening = Opening::new(2, 0, 100, 1);
+const SHORT: Opening = Opening::new(1, 0, 2, 1);
+const REFUSED: Opening = Opening::new(1, 5, 5, 1);
+
+/// The first answer of M and of R, and of the short one.
+const FIRST: Answer = Answer::new(0, -50);
+
+/// The calls on a dispatcher.
+#[derive(Clone, Copy)]
+struct Calls {
+    fresh: fn() -> Dispatcher,
+    turn: fn(&Dispatcher) -> u32,
+    open: fn(&mut Dispatcher, u32, &Opening) -> Report,
+    enter: fn(&mut Dispatcher, u32, Answer) -> Report,
+    ask: fn(&Dispatcher, u32) -> Report,
+}
+
+const MODEL: Calls = Calls {
+    fresh: Dispatcher::fresh,
+    turn: dispatcher::turn,
+    open: dispatcher::open,
+    enter: dispatcher::enter,
+    ask: dispatcher::ask,
+};
+
+const PLAIN: Calls = Calls {
+    fresh: Dispatcher::fresh,
+    turn: plain::dispatch_turn,
+    open: plain::dispatch_open,
+    enter: plain::dispatch_enter,
+    ask: plain::dispatch_ask,
+};
+
+const LIBRARY: Calls = Calls {
+    fresh: ffi::dispatch_fresh,
+    turn: ffi::dispatch_turn,
+    open: ffi::dispatch_open,
+    enter: ffi::dispatch_enter,
+    ask: ffi::dispatch_ask,
+};
+
+const ALL: [Calls; 3] = [MODEL, PLAIN, LIBRARY];
+
+impl Calls {
+    /// A fresh dispatcher with a search of M at each of these dryers.
+    fn with(&self, dryers: &[u32]) -> Dispatcher {
+        let mut dispatcher = (self.fresh)();
+        for &dryer in dryers {
+            let report = (self.open)(&mut dispatcher, dryer, &M);
+            assert_eq!(report, Report::next(0, 0));
+        }
+        dispatcher
+    }
+
+    /// An answer for a dryer that is refused so, and leaves the dispatcher as it was.
+    fn refuses(&self, dispatcher: &mut Dispatcher, dryer: u32, answer: Answer, refusal: Report) {
+        let before = *dispatcher;
+        assert_eq!((self.enter)(dispatcher, dryer, answer), refusal);
+        assert_eq!(*dispatcher, before);
+    }
+
+    /// An opening for a dryer that is refused so, and leaves the dispatcher as it was.
+    fn refuses_opening(&self, dispatcher: &mut Dispatcher, dryer: u32, opening: &Opening, n: u32) {
+        let before = *dispatcher;
+        let refusal = Report::refuse(n, 0);
+        assert_eq!((self.open)(dispatcher, dryer, opening), refusal);
+        assert_eq!(*dispatcher, before);
+    }
+
+    /// The first answer of M for each of these dryers in turn.
+    fn serves(&self, dispatcher: &mut Dispatcher, dryers: &[u32]) {
+        for &dryer in dryers {
+            assert_eq!((self.turn)(dispatcher), dryer);
+            let report = (self.enter)(dispatcher, dryer, FIRST);
+            assert_eq!(report, Report::next(100, 1));
+            assert_eq!(dispatcher.last, dryer);
+        }
+    }
+}
+
+/// No search, nobody served, a count of 0: every dryer is refused as a search of nothing but 0.
+#[test]
+fn fresh() {
+    for calls in ALL {
+        let mut dispatcher = (calls.fresh)();
+        let blank = Search::fresh(Opening::new(0, 0, 0, 0));
+        assert_eq!(dispatcher.searches, [blank; DRYERS]);
+        assert_eq!((dispatcher.last, dispatcher.count), (6, 0));
+        assert_eq!((calls.turn)(&dispatcher), NOBODY);
+        for dryer in 0..6 {
+            assert_eq!((calls.ask)(&dispatcher, dryer), Report::refuse(3, 0));
+            calls.refuses(&mut dispatcher, dryer, FIRST, Report::refuse(15, 0));
+        }
+        assert_eq!((calls.ask)(&dispatcher, 6), Report::refuse(14, 0));
+    }
+}
+
+/// An opening moves neither the mark nor the count, and touches no other dryer.
+#[test]
+fn openings() {
+    for calls in ALL {
+        let mut dispatcher = calls.with(&[4]);
+        assert_eq!((calls.turn)(&dispatcher), 4);
+        let mut expected = Dispatcher::fresh();
+        expected.searches[4] = Search::fresh(M);
+        assert_eq!(dispatcher, expected);
+        (dispatcher.last, dispatcher.count) = (2, 7);
+        dispatcher.searches[3].count = 73;
+        dispatcher.searches[3].slots[71] = 5;
+        assert_eq!((calls.open)(&mut dispatcher, 3, &R), Report::next(0, 0));
+        (expected.last, expected.count) = (2, 7);
+        expected.searches[3] = Search::fresh(R);
+        assert_eq!(dispatcher, expected);
+    }
+}
+
+/// Dryers 4, 1 and 2 are opened in this order; the turn goes 1, 2, 4 and round.
+#[test]
+fn three_dryers() {
+    for calls in ALL {
+        let mut dispatcher = calls.with(&[4, 1, 2]);
+        calls.serves(&mut dispatcher, &[1, 2, 4]);
+        assert_eq!((calls.turn)(&dispatcher), 1);
+        let report = (calls.enter)(&mut dispatcher, 1, Answer::new(100, 100));
+        assert_eq!(report, Report::next(33, 2));
+        assert_eq!((calls.ask)(&dispatcher, 1), Report::next(33, 2));
+        assert_eq!((calls.ask)(&dispatcher, 2), Report::next(100, 1));
+        assert_eq!((calls.turn)(&dispatcher), 2);
+        let mut expected = Dispatcher::fresh();
+        expected.searches[1] = Book::of(M, &[-50, 100]).search();
+        expected.searches[2] = Book::of(M, &[-50]).search();
+        expected.searches[4] = Book::of(M, &[-50]).search();
+        (expected.last, expected.count) = (1, 4);
+        assert_eq!(dispatcher, expected);
+    }
+}
+
+/// Every mark with searches at 1, 2 and 4.
+#[test]
+fn marks() {
+    let turns = [(0, 1), (1, 2), (2, 4), (3, 4), (4, 1), (5, 1), (6, 1)];
+    for calls in ALL {
+        let mut dispatcher = calls.with(&[4, 1, 2]);
+        for (mark, turn) in turns.into_iter().chain([(7, 1), (u32::MAX, 1)]) {
+            dispatcher.last = mark;
+            assert_eq!((calls.turn)(&dispatcher), turn, "mark {mark}");
+        }
+    }
+}
+
+/// A dryer that is not there is refused before all else.
+#[test]
+fn no_such_dryer() {
+    for calls in ALL {
+        let mut dispatcher = calls.with(&[0, 5]);
+        for dryer in [6, 7, 256, u32::MAX] {
+            calls.refuses(&mut dispatcher, dryer, FIRST, Report::refuse(14, 0));
+            let wrong = Answer::new(-1, i32::MIN);
+            calls.refuses(&mut dispatcher, dryer, wrong, Report::refuse(14, 0));
+            calls.refuses_opening(&mut dispatcher, dryer, &M, 14);
+            calls.refuses_opening(&mut dispatcher, dryer, &REFUSED, 14);
+            assert_eq!((calls.ask)(&dispatcher, dryer), Report::refuse(14, 0));
+        }
+    }
+}
+
+/// Out of turn is refused before the answer's own faults, for dryers of every kind.
+#[test]
+fn not_its_turn() {
+    for calls in ALL {
+        let mut dispatcher = calls.with(&[0, 1]);
+        dispatcher.searches[2] = Book::of(SHORT, &[-1, 1]).search();
+        dispatcher.searches[3].count = 73;
+        for dryer in 1..6 {
+            for answer in [FIRST, Answer::new(99, -50), Answer::new(0, 10_001)] {
+                calls.refuses(&mut dispatcher, dryer, answer, Report::refuse(15, 0));
+            }
+        }
+    }
+}
+
+/// A search on its way is not opened anew, whatever the opening; one that has stopped is, and so
+/// is one that is itself refused.
+#[test]
+fn still_searching() {
+    for calls in ALL {
+        let mut dispatcher = calls.with(&[0]);
+        calls.refuses_opening(&mut dispatcher, 0, &SHORT, 16);
+        calls.refuses_opening(&mut dispatcher, 0, &REFUSED, 16);
+        let stopped = Book::of(SHORT, &[-1, 1]).search();
+        let mut junk = Search::fresh(M);
+        junk.count = 73;
+        dispatcher.searches[1] = stopped;
+        dispatcher.searches[2] = junk;
+        for dryer in 1..4 {
+            calls.refuses_opening(&mut dispatcher, dryer, &REFUSED, 3);
+            assert_eq!((calls.open)(&mut dispatcher, dryer, &R), Report::next(0, 0));
+            assert_eq!(dispatcher.searches[dryer as usize], Search::fresh(R));
+            calls.refuses_opening(&mut dispatcher, dryer, &R, 16);
+        }
+        assert_eq!((dispatcher.last, dispatcher.count), (6, 0));
+    }
+}
+
+/// Answers refused 6, 7 and 8 leave the turn; the place is the count of the dryer's search.
+#[test]
+fn refused_answers_leave_the_turn() {
+    for calls in ALL {
+        let mut dispatcher = calls.with(&[3, 5]);
+        calls.serves(&mut dispatcher, &[3, 5]);
+        let wrong = [
+            (Answer::new(99, 100), Report::refuse(6, 1)),
+            (Answer::new(100, 10_001), Report::refuse(7, 1)),
+            (Answer::new(100, -1), Report::refuse(8, 1)),
+        ];
+        for (answer, refusal) in wrong {
+            calls.refuses(&mut dispatcher, 3, answer, refusal);
+            assert_eq!((calls.turn)(&dispatcher), 3);
+        }
+        let second = Answer::new(100, 100);
+        assert_eq!(
+            (calls.enter)(&mut dispatcher, 3, second),
+            Report::next(33, 2)
+        );
+        assert_eq!((calls.turn)(&dispatcher), 5);
+    }
+}
+
+/// The count grows up to the ceiling, and remains as it is there and above.
+#[test]
+fn counts() {
+    let after = [
+        (0, 1),
+        (999_999_998, 999_999_999),
+        (999_999_999, 1_000_000_000),
+        (1_000_000_000, 1_000_000_000),
+        (1_000_000_001, 1_000_000_001),
+        (u32::MAX, u32::MAX),
+    ];
+    for calls in ALL {
+        for (before, after) in after {
+            let mut dispatcher = calls.with(&[0]);
+            dispatcher.count = before;
+            calls.refuses(&mut dispatcher, 1, FIRST, Report::refuse(15, 0));
+            calls.serves(&mut dispatcher, &[0]);
+            assert_eq!(dispatcher.count, after);
+        }
+    }
+}
+
+/// The longest wait: dryer 0 was served last, and the five others come before it.
+#[test]
+fn all_six() {
+    for calls in ALL {
+        let mut dispatcher = calls.with(&[5, 4, 3, 2, 1, 0]);
+        calls.serves(&mut dispatcher, &[0, 1, 2, 3, 4, 5]);
+        assert_eq!((calls.turn)(&dispatcher), 0);
+        assert_eq!(dispatcher.count, 6);
+    }
+}
+
+/// A search that stops leaves the round, and the last one leaves nobody; a new one comes in again.
+#[test]
+fn to_the_stop() {
+    for calls in ALL {
+        let mut dispatcher = (calls.fresh)();
+        for dryer in [2, 4] {
+            assert_eq!(
+                (calls.open)(&mut dispatcher, dryer, &SHORT),
+                Report::next(0, 0)
+            );
+        }
+        let stop = Report::stop(0, 2, 2, 2);
+        let turns = [
+            (2, FIRST, Report::next(2, 1)),
+            (4, FIRST, Report::next(2, 1)),
+        ];
+        let last = [2, 4].map(|dryer| (dryer, Answer::new(2, 1), stop));
+        for (dryer, answer, report) in turns.into_iter().chain(last) {
+            assert_eq!((calls.turn)(&dispatcher), dryer);
+            assert_eq!((calls.enter)(&mut dispatcher, dryer, answer), report);
+        }
+        assert_eq!((calls.turn)(&dispatcher), NOBODY);
+        assert_eq!((calls.ask)(&dispatcher, 2), stop);
+        assert_eq!((dispatcher.last, dispatcher.count), (4, 4));
+        assert_eq!((calls.open)(&mut dispatcher, 4, &M), Report::next(0, 0));
+        calls.serves(&mut dispatcher, &[4]);
+    }
+}
+
+#[test]
+fn model_and_plain_on_dispatchers() {
+    let mut rng = Rng::new(9);
+    for _ in 0..5_000 {
+        let mut one = cases::any_dispatcher(&mut rng);
+        let mut other = one;
+        for dryer in 0..7 {
+            let report = dispatcher::ask(&one, dryer);
+            assert_eq!(report, plain::dispatch_ask(&other, dryer), "{one:?}");
+            let answer = Answer::new(report.point as i32, cases::any_value(&mut rng));
+            let opening = cases::any_opening(&mut rng);
+            let (model, plain) = if rng.once_in(3) {
+                (
+                    dispatcher::open(&mut one, dryer, &opening),
+                    plain::dispatch_open(&mut other, dryer, &opening),
+                )
+            } else {
+                (
+                    dispatcher::enter(&mut one, dryer, answer),
+                    plain::dispatch_enter(&mut other, dryer, answer),
+                )
+            };
+            assert_eq!(model, plain, "{one:?}");
+            assert_eq!(one, other);
+            assert_eq!(dispatcher::turn(&one), plain::dispatch_turn(&other));
+        }
+    }
+}

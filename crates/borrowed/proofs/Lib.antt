@@ -1,0 +1,7 @@
+-- The modules of `proofs/`.
+pub mod Walk
+pub mod Contracts
+pub mod Whole
+pub mod WholeTwo
+pub mod Looked
+pub mod LookedBeside

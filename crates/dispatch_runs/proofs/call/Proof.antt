@@ -1,0 +1,32 @@
+-- `dispatch_runs::call` meets its contract: an opening or an answer, by its kind.
+-- Assumes nothing.
+use mathlib.Core.Path.{sym, ap, _∙_}
+use borrow.Author.Needs.{needs}
+use Rattle.integers.specs.Bounds.{read}
+use Rattle.dispatching.specs.Calls.{callOf}
+use Rattle.dispatch_runs.specs.ListedLaws.{call-opening, call-answer}
+use Rattle.dispatch_runs.proofs.call.Statement.{statement}
+use Rattle.dispatch_runs.proofs.call.Tie as tie
+
+open-requires : tie.Need-open-requires
+open-requires c κs = search needs
+
+enter-requires : tie.Need-enter-requires
+enter-requires c κs = search needs
+
+returns : tie.Need-returns
+returns c =
+    let s = c .before .before in
+    let x = s .args in
+    (rw (read (s .fits .a), read (s .fits .b), read (s .fits .c), read (s .fits .e)) at (c .open .ensures))
+    ∙ sym (ap (callOf (x .d)) (call-opening (x .kind) (x .dryer) (x .a) (x .b) (x .c) (x .e) (c .before .if1 .taken)))
+
+returns-2 : tie.Need-returns-2
+returns-2 c =
+    let s = c .before .before in
+    let x = s .args in
+    (rw (read (s .fits .a), read (s .fits .b)) at (c .enter .ensures))
+    ∙ sym (ap (callOf (x .d)) (call-answer (x .kind) (x .dryer) (x .a) (x .b) (x .c) (x .e) (c .before .if1 .left)))
+
+pub call-spec : {M : Type 1} → statement M
+call-spec = tie.close (tie.spec open-requires enter-requires returns returns-2)

@@ -1,0 +1,94 @@
+-- The laws of a dispatcher's run written down in lists: its calls one by one, and what the loop keeps, which is what `RowsLaws` of crate `rules`
+-- keeps of any run.
+-- Assumes nothing.
+use Prim.Native.Nat.{ℕ, zero, suc, _+_, _≤_, _<_}
+use mathlib.Core.Path.{_≡_, refl, ap, _∙_}
+use mathlib.Core.List.{List, [], _∷_}
+use native.Mathlib.Omega.{arith}
+use borrow.Author.Tests.{eq-eqb, ne-eqb}
+use lib.IntN.{ℤ}
+use lib.ListN.{length, drop}
+use Rattle.rules.specs.declared.Report.{Report}
+use Rattle.rules.specs.Rows.{writtenOver}
+use Rattle.rules.specs.RowsLaws as Rows
+use Rattle.dispatching.specs.declared.Dispatcher.{Dispatcher}
+use Rattle.dispatching.specs.Dispatching.{dryers}
+use Rattle.dispatching.specs.Calls.{Call, opening, answer, callOf, dispatcherAfter, reportsOf}
+use Rattle.dispatching.specs.RunHolds.{run}
+use Rattle.dispatch_runs.specs.Listed.{callWith, callAt, callsFrom, howMany, callsIn, DispatcherRuns, Before, CallMade}
+
+-- ---- the calls one by one
+
+-- a call by its kind
+module _ (k i : ℕ) (a b c e : ℤ) where
+  pub call-opening : k ≡ 0 → callWith k i a b c e ≡ opening i (record { method = a; first = b; second = c; tolerance = e })
+  call-opening h = simp (eq-eqb k 0 h)
+
+  pub call-answer : (k ≡ 0 → ⊥) → callWith k i a b c e ≡ answer i (record { point = a; value = b })
+  call-answer h = simp (ne-eqb k 0 h)
+
+module _ (ks ds : List ℕ) (xs : List ℤ) where
+  calls-number : (i n : ℕ) → length (callsFrom ks ds xs i n) ≡ n
+  unfolding callsFrom
+  calls-number i zero = refl
+  calls-number i (suc n) = ap suc (calls-number (i + 1) n)
+
+  -- the one at a place
+  calls-drop : (at n i : ℕ) → i < n → drop i (callsFrom ks ds xs at n) ≡ callAt ks ds xs (at + i) ∷ drop (i + 1) (callsFrom ks ds xs at n)
+  unfolding callsFrom
+  calls-drop at zero i h = absurd (omega arith)
+  calls-drop at (suc n) zero h = let e : at + 0 ≡ at = omega arith in rw e
+  calls-drop at (suc n) (suc i) h =
+      let e : suc i + 1 ≡ suc (i + 1) = omega arith in
+      let f : at + suc i ≡ (at + 1) + i = omega arith in
+      rw (e, f) (calls-drop (at + 1) n i (omega arith))
+
+-- ---- the run so far
+
+abbrev told : Dispatcher → Call → Report
+told d c = callOf d c .report
+
+abbrev next : Dispatcher → Call → Dispatcher
+next d c = callOf d c .dispatcher
+
+-- i of the calls, of the lists and from d₀ on, have led to the dispatcher d and the list `after`
+abbrev pub Made : Dispatcher → List ℕ → List ℕ → List ℤ → List ℕ → ℕ → Dispatcher → List ℕ → Type 0
+Made d₀ ks ds xs before = Rows.Made told next d₀ (callsIn ks ds xs before) before
+
+dispatcher-after : (d : Dispatcher) (calls : List Call) → Rows.afterAll told next d calls ≡ dispatcherAfter d calls
+unfolding dispatcherAfter
+dispatcher-after d [] = refl
+dispatcher-after d (c ∷ calls) = dispatcher-after (callOf d c .dispatcher) calls
+
+reports-told : (d : Dispatcher) (calls : List Call) → Rows.toldInTurn told next d calls ≡ reportsOf d calls
+unfolding reportsOf
+reports-told d [] = refl
+reports-told d (c ∷ calls) = ap (λ (rs : List Report). callOf d c .report ∷ rs) (reports-told (callOf d c .dispatcher) calls)
+
+module _ (d₀ : Dispatcher) (ks ds : List ℕ) (xs : List ℤ) (before : List ℕ) where
+  abbrev calls : List Call
+  calls = callsIn ks ds xs before
+
+  pub made-none : Made d₀ ks ds xs before 0 d₀ before
+  made-none = Rows.made-none told next d₀ calls before
+
+  -- of m calls, which are all
+  module _ {i m : ℕ} {d : Dispatcher} {list : List ℕ} (made : Made d₀ ks ds xs before i d list) (number : m ≡ howMany ks ds xs before) where
+    pub one-before : i < m → Before i ks ds xs list
+    one-before h = record { kind = omega arith; dryer = omega arith; numbers = omega arith; room = omega (arith, made .same) }
+
+    pub made-more : i < m → {r : Dispatcher} {after : List ℕ} → CallMade i d ks ds xs list r after → Made d₀ ks ds xs before (i + 1) r after
+    made-more h one =
+        let here : 0 + i ≡ i = omega arith in
+        Rows.made-more told next d₀ calls before made (callAt ks ds xs i) (rw here at (calls-drop ks ds xs 0 (howMany ks ds xs before) i (omega arith)))
+        (one .left) (one .written)
+
+    pub made-all : length (d₀ .searches) ≡ dryers → m ≤ i → DispatcherRuns d₀ ks ds xs before d list
+    made-all six h =
+        let count = calls-number ks ds xs 0 (howMany ks ds xs before) in
+        let all = Rows.made-all told next d₀ calls before made (omega (arith, count)) (omega (arith, count)) in
+        record {
+          left = all .0 ∙ dispatcher-after d₀ calls;
+          written = all .1 ∙ ap (λ (rs : List Report). writtenOver rs before) (reports-told d₀ calls);
+          run = run d₀ six calls;
+        }

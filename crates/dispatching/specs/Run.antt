@@ -1,0 +1,112 @@
+-- The claim of request 2026-04 about whole runs: for every dispatcher that a host may hold and every list of calls, of any length, one
+-- record whose fields are the request's sentences, said of every place of the run; and what is said from a fresh dispatcher on. Nothing is
+-- proved here: `run`, `fresh-run` and `independent` in RunHolds are the proofs.
+-- Assumes nothing.
+use Prim.Native.Nat.{ℕ, _+_, _≤_, _<_, _%_, min}
+use mathlib.Core.Path.{_≡_}
+use mathlib.Core.Logic.{_≢_}
+use mathlib.Core.Bool.{true, false}
+use mathlib.Core.List.{List, [], _∷_, map}
+use lib.ListN.{length, getD, take}
+use Rattle.rules.specs.declared.Opening.{Opening}
+use Rattle.rules.specs.declared.Answer.{Answer}
+use Rattle.rules.specs.Refusals.{Accepted}
+use Rattle.rules.specs.Search.{isRefusal}
+use Rattle.held.specs.declared.Search.{Search}
+use Rattle.held.specs.Held.{blank, heldReport}
+use Rattle.journal.specs.Journal.{journalReport}
+use Rattle.journal.specs.Run.{into, journalOf, holding, Run}
+use Rattle.dispatching.specs.declared.Dispatcher.{Dispatcher}
+use Rattle.dispatching.specs.declared.Turn.{Turn}
+use Rattle.dispatching.specs.Dispatching.{dryers, ceiling, freshDispatcher, searchAt, unfinished, startAfter, turnOf, dryerReport}
+use Rattle.dispatching.specs.Calls.{Call, callOf, dryerOf, dispatcherAfter, dispatcherAt, servedBy, servings, servingsIn, among, countAfter}
+use Rattle.dispatching.specs.Calls.{ownCalls, loneOf, loneAfter, Due, none, since, historyAt}
+
+-- ---- words of the claim
+
+-- counting round from a dryer on, the first among the next n whose search is accepted and unfinished is i: its is, and no dryer's is that
+-- is counted before it
+pub record First (ss : List Search) (at n i : ℕ) : Type 0 where
+  pub place : ℕ
+  pub near : place < n
+  pub dryer : (at + place) % dryers ≡ i
+  pub goes-on : unfinished (getD ss i blank) ≡ true
+  pub passed : (j : ℕ) → j < place → unfinished (getD ss ((at + j) % dryers) blank) ≡ false
+
+-- dryer i waits from place p on, while the next n calls do not serve it: at most five others are served; after five the turn is its own;
+-- and its search is accepted and unfinished still
+pub record Waits (d : Dispatcher) (calls : List Call) (p n i : ℕ) : Type 0 where
+  pub at-most-five : length (servingsIn d calls p n) ≤ 5
+  pub then-its-turn : length (servingsIn d calls p n) ≡ 5 → turnOf (dispatcherAt d calls (p + n)) ≡ Turn.Dryer i
+  pub goes-on : unfinished (searchAt (dispatcherAt d calls (p + n)) i) ≡ true
+
+-- a search is that of an opening and answers by demand 3: the opening is accepted, the answers are the journal, the search holds them and
+-- reports as the journal does, and the claim about whole runs of a single search is true of it
+pub record Kept (s : Search) (o : Opening) (answers : List Answer) : Type 0 where
+  pub accepted : Accepted o
+  pub booked : journalOf o (map into answers) ≡ answers
+  pub search : s ≡ holding o answers
+  pub report : heldReport s ≡ journalReport o answers
+  pub run : Run o (map into answers)
+
+-- ---- the claim
+
+-- at every place p of the run, and for whatever call c comes next there
+pub record DispatcherRun (d : Dispatcher) (calls : List Call) : Type 0 where
+  -- the oven's turn goes to the next dryer, counting round from the one after the last served, whose search is accepted and unfinished
+  pub next : (p i : ℕ) → turnOf (dispatcherAt d calls p) ≡ Turn.Dryer i
+      → First (dispatcherAt d calls p .searches) (startAfter (dispatcherAt d calls p .last)) dryers i
+  -- where nobody has it, no dryer's is
+  pub nobody : (p i : ℕ) → turnOf (dispatcherAt d calls p) ≡ Turn.Nobody → i < dryers → unfinished (searchAt (dispatcherAt d calls p) i) ≡ false
+  -- a turn is served by an accepted answer: whoever a call serves has the turn, and is then the last served
+  pub in-turn : (p i : ℕ) (c : Call) → servedBy (dispatcherAt d calls p) c ≡ i ∷ [] → turnOf (dispatcherAt d calls p) ≡ Turn.Dryer i
+  pub marked : (p i : ℕ) (c : Call) → servedBy (dispatcherAt d calls p) c ≡ i ∷ [] → callOf (dispatcherAt d calls p) c .dispatcher .last ≡ i
+  -- a call that serves nobody, a refused answer among them, leaves the mark
+  pub unmarked : (p : ℕ) (c : Call) → servedBy (dispatcherAt d calls p) c ≡ []
+      → callOf (dispatcherAt d calls p) c .dispatcher .last ≡ dispatcherAt d calls p .last
+  -- a refused call leaves everything
+  pub refused : (p : ℕ) (c : Call) → isRefusal (callOf (dispatcherAt d calls p) c .report) ≡ true
+      → callOf (dispatcherAt d calls p) c .dispatcher ≡ dispatcherAt d calls p
+  -- a dryer whose search is accepted and unfinished waits for at most five served answers before its own turn
+  pub waiting : (p n i : ℕ) → i < dryers → unfinished (searchAt (dispatcherAt d calls p) i) ≡ true → among i (servingsIn d calls p n) ≡ false
+      → Waits d calls p n i
+  -- the count is that of the served answers while below the ceiling, and remains as it is once that is reached or passed
+  pub served : (p : ℕ) → dispatcherAt d calls p .count ≡ countAfter (d .count) (length (servings d (take p calls)))
+  -- the search at a dryer is that of its own accepted calls alone
+  pub apart : (p i : ℕ) → searchAt (dispatcherAt d calls p) i ≡ loneAfter (searchAt d i) (ownCalls d i (take p calls))
+  -- a call for one dryer changes no other dryer's search
+  pub others : (p i : ℕ) (c : Call) → i ≢ dryerOf c → searchAt (callOf (dispatcherAt d calls p) c .dispatcher) i ≡ searchAt (dispatcherAt d calls p) i
+  -- where neither 14 nor 15 nor 16 applies, a call reports what the held search alone reports
+  pub lone : (p : ℕ) (c : Call) → Due (dispatcherAt d calls p) c
+      → callOf (dispatcherAt d calls p) c .report ≡ loneOf (searchAt (dispatcherAt d calls p) (dryerOf c)) c .report
+  -- and where it is accepted, that is the report of its dryer's search as it then stands
+  pub told : (p : ℕ) (c : Call) → isRefusal (callOf (dispatcherAt d calls p) c .report) ≡ false
+      → callOf (dispatcherAt d calls p) c .report ≡ dryerReport (callOf (dispatcherAt d calls p) c .dispatcher) (dryerOf c)
+  -- once an opening has been accepted for a dryer, its search keeps demand 3 with that opening and the answers accepted since
+  pub kept : (p i : ℕ) (o : Opening) (answers : List Answer) → historyAt d calls p i ≡ since o answers
+      → Kept (searchAt (dispatcherAt d calls p) i) o answers
+
+-- for every dispatcher, which has six searches, and every list of calls
+abbrev pub EveryDispatcherRun : Type 0
+EveryDispatcherRun = (d : Dispatcher) → length (d .searches) ≡ dryers → (calls : List Call) → DispatcherRun d calls
+
+-- ---- from a fresh dispatcher on
+
+pub record FreshRun (calls : List Call) : Type 0 where
+  -- the count is the number of served answers, up to the ceiling
+  pub served : (p : ℕ) → dispatcherAt freshDispatcher calls p .count ≡ min (length (servings freshDispatcher (take p calls))) ceiling
+  -- a dryer for which no opening was accepted has no search
+  pub none-yet : (p i : ℕ) → i < dryers → historyAt freshDispatcher calls p i ≡ none → searchAt (dispatcherAt freshDispatcher calls p) i ≡ blank
+
+abbrev pub EveryFreshRun : Type 0
+EveryFreshRun = (calls : List Call) → FreshRun calls
+
+-- ---- two runs
+
+-- where two runs begin with the same search at a dryer and accept the same calls for it, whatever the other dryers do, the report there is
+-- the same: the settings called for at a dryer depend on its own opening and values only
+abbrev pub Independent : Type 0
+Independent =
+    (d d' : Dispatcher) → length (d .searches) ≡ dryers → length (d' .searches) ≡ dryers → (calls calls' : List Call) (i : ℕ)
+    → searchAt d i ≡ searchAt d' i → ownCalls d i calls ≡ ownCalls d' i calls'
+    → dryerReport (dispatcherAfter d calls) i ≡ dryerReport (dispatcherAfter d' calls') i
