@@ -1,7 +1,7 @@
 // The dispatcher: six dryers and one oven. A call takes the dispatcher by value and answers the report beside the dispatcher as it then is.
 ghost use mathlib.Core.Path.{_≡_};
 ghost use Prim.Native.Nat.{_<_};
-ghost use Rattle.dispatching.specs.Dispatching.{dryers, freshDispatcher, isDryer, withSearch, raised, servedAt, refusedWith, openedBy, answeredBy};
+ghost use Rattle.dispatching.specs.Dispatching.{dryers, freshDispatcher, isDryer, withSearch, raised, servedAt, refusedWith, settledBy};
 ghost use Rattle.dispatching.specs.Dispatching.{turnOf, openingAt, answerAt, dryerReport};
 use dispatching::Dispatched;
 use dispatching::Dispatcher;
@@ -70,7 +70,7 @@ fn refused(d: Dispatcher, number: u32) -> Dispatched
 // What an opening answers, once the dryer may have it.
 fn opened(d: Dispatcher, dryer: u32, e: Entered) -> Dispatched
     requires { ⌜ dryer < dryers ⌝ }
-    ensures { λ r. ⌜ r ≡ openedBy d dryer e ⌝ }
+    ensures { λ r. ⌜ r ≡ settledBy d e (withSearch d dryer (e .search)) ⌝ }
 {
     let report = e.report;
     if refusals::is_refusal(report) {
@@ -89,7 +89,7 @@ fn opened(d: Dispatcher, dryer: u32, e: Entered) -> Dispatched
 // What an answer answers, once the dryer has the turn.
 fn answered(d: Dispatcher, dryer: u32, e: Entered) -> Dispatched
     requires { ⌜ dryer < dryers ⌝ }
-    ensures { λ r. ⌜ r ≡ answeredBy d dryer e ⌝ }
+    ensures { λ r. ⌜ r ≡ settledBy d e (servedAt d dryer (e .search)) ⌝ }
 {
     let report = e.report;
     if refusals::is_refusal(report) {

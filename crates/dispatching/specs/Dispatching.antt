@@ -100,27 +100,26 @@ servedAt d i s = record { searches = set (d .searches) i s; last = i; count = ra
 
 -- ---- the calls
 
--- what an opening answers, once the dryer may have it: a refused one changes nothing
-unfoldable pub openedBy : Dispatcher → ℕ → Entered → Dispatched
-openedBy d i e = cond (isRefusal (e .report)) (told (e .report) d) (told (e .report) (withSearch d i (e .search)))
-
--- what an answer answers, once the dryer has the turn: a refused one leaves the turn
-unfoldable pub answeredBy : Dispatcher → ℕ → Entered → Dispatched
-answeredBy d i e = cond (isRefusal (e .report)) (told (e .report) d) (told (e .report) (servedAt d i (e .search)))
+-- what is left once the dispatcher's own checks are past, and the search has answered: where it refuses, everything as it was; where it
+-- accepts, `next`
+unfoldable pub settledBy : Dispatcher → Entered → Dispatcher → Dispatched
+settledBy d e next = cond (isRefusal (e .report)) (told (e .report) d) (told (e .report) next)
 
 -- an opening: the dryer (14), its search (16), then document 01's checks
 unfoldable pub openingAt : Dispatcher → ℕ → Opening → Dispatched
 openingAt d i o =
+    let e = reopenOf (searchAt d i) o in
     cond (not (ltb i dryers)) (refusedWith noSuchDryer d)
     (cond (unfinished (searchAt d i)) (refusedWith stillSearching d)
-    (openedBy d i (reopenOf (searchAt d i) o)))
+    (settledBy d e (withSearch d i (e .search))))
 
 -- an answer: the dryer (14), the turn (15), then document 01's checks
 unfoldable pub answerAt : Dispatcher → ℕ → Answer → Dispatched
 answerAt d i a =
+    let e = enterOf (searchAt d i) (a .point) (a .value) in
     cond (not (ltb i dryers)) (refusedWith noSuchDryer d)
     (cond (not (isDryer (turnOf d) i)) (refusedWith notItsTurn d)
-    (answeredBy d i (enterOf (searchAt d i) (a .point) (a .value))))
+    (settledBy d e (servedAt d i (e .search))))
 
 -- the report of a dryer: the dryer (14), then its search's own
 unfoldable pub dryerReport : Dispatcher → ℕ → Report

@@ -22,7 +22,7 @@ use Rattle.dispatching.specs.declared.Dispatcher.{Dispatcher}
 use Rattle.dispatching.specs.declared.Turn.{Turn}
 use Rattle.dispatching.specs.declared.Dispatched.{Dispatched}
 use Rattle.dispatching.specs.Dispatching.{dryers, noSuchDryer, notItsTurn, stillSearching, searchAt, unfinished, startAfter, firstFrom, turnOf}
-use Rattle.dispatching.specs.Dispatching.{isDryer, told, refusedWith, withSearch, servedAt, openedBy, answeredBy, openingAt, answerAt, dryerReport}
+use Rattle.dispatching.specs.Dispatching.{isDryer, told, refusedWith, withSearch, servedAt, settledBy, openingAt, answerAt, dryerReport}
 use Rattle.dispatching.specs.Calls.{Call, opening, answer, callOf, dryerOf, loneOf, Due}
 use Rattle.dispatching.specs.Run.{First}
 
@@ -48,6 +48,24 @@ pub turn-is : (t : Turn) (i : ℕ) → isDryer t i ≡ true → t ≡ Turn.Dryer
 turn-is (Turn.Dryer j) i e = ap Turn.Dryer (eqb-true j i e)
 turn-is Turn.Nobody i e = never (sym e)
 
+module _ (d : Dispatcher) (e : Entered) (next : Dispatcher) where
+  pub settled-refused : isRefusal (e .report) ≡ true → settledBy d e next ≡ told (e .report) d
+  unfolding settledBy
+  settled-refused t = simp t
+
+  pub settled-accepted : isRefusal (e .report) ≡ false → settledBy d e next ≡ told (e .report) next
+  unfolding settledBy
+  settled-accepted t = simp t
+
+  -- either way the report is the search's own
+  settled-report : settledBy d e next .report ≡ e .report
+  unfolding settledBy
+  settled-report = go (isRefusal (e .report))
+    where
+      go : (b : Bool) → cond b (told (e .report) d) (told (e .report) next) .report ≡ e .report
+      go true = refl
+      go false = refl
+
 module _ (d : Dispatcher) (i : ℕ) where
   pub report-nowhere : dryers ≤ i → dryerReport d i ≡ Report.Refused noSuchDryer 0
   unfolding dryerReport
@@ -56,23 +74,6 @@ module _ (d : Dispatcher) (i : ℕ) where
   pub report-there : i < dryers → dryerReport d i ≡ heldReport (searchAt d i)
   unfolding dryerReport
   report-there h = simp (lt-ltb i dryers h)
-
-  module _ (e : Entered) where
-    pub opened-refused : isRefusal (e .report) ≡ true → openedBy d i e ≡ told (e .report) d
-    unfolding openedBy
-    opened-refused t = simp t
-
-    pub opened-accepted : isRefusal (e .report) ≡ false → openedBy d i e ≡ told (e .report) (withSearch d i (e .search))
-    unfolding openedBy
-    opened-accepted t = simp t
-
-    pub answered-refused : isRefusal (e .report) ≡ true → answeredBy d i e ≡ told (e .report) d
-    unfolding answeredBy
-    answered-refused t = simp t
-
-    pub answered-accepted : isRefusal (e .report) ≡ false → answeredBy d i e ≡ told (e .report) (servedAt d i (e .search))
-    unfolding answeredBy
-    answered-accepted t = simp t
 
   module _ (o : Opening) where
     pub opening-nowhere : dryers ≤ i → openingAt d i o ≡ refusedWith noSuchDryer d
@@ -83,7 +84,8 @@ module _ (d : Dispatcher) (i : ℕ) where
     unfolding openingAt
     opening-early h w = simp (lt-ltb i dryers h, w)
 
-    pub opening-due : i < dryers → unfinished (searchAt d i) ≡ false → openingAt d i o ≡ openedBy d i (reopenOf (searchAt d i) o)
+    pub opening-due : i < dryers → unfinished (searchAt d i) ≡ false
+        → openingAt d i o ≡ settledBy d (reopenOf (searchAt d i) o) (withSearch d i (reopenOf (searchAt d i) o .search))
     unfolding openingAt
     opening-due h w = simp (lt-ltb i dryers h, w)
 
@@ -96,7 +98,9 @@ module _ (d : Dispatcher) (i : ℕ) where
     unfolding answerAt
     answer-early h t = simp (lt-ltb i dryers h, t)
 
-    pub answer-due : i < dryers → isDryer (turnOf d) i ≡ true → answerAt d i a ≡ answeredBy d i (enterOf (searchAt d i) (a .point) (a .value))
+    pub answer-due : i < dryers → isDryer (turnOf d) i ≡ true
+        → let e = enterOf (searchAt d i) (a .point) (a .value) in
+        answerAt d i a ≡ settledBy d e (servedAt d i (e .search))
     unfolding answerAt
     answer-due h t = simp (lt-ltb i dryers h, t)
 
@@ -123,40 +127,31 @@ module _ (d : Dispatcher) (P : Dispatched → Type 0) (kept : (r : Report) → i
       go true e true f = kept (Report.Refused n 0) refl
       go true e false f = due (ltb-true i dryers e) f
 
-  -- then what the held search alone answers, and the dispatcher that is left where it accepts
-  settled : (e : Entered) (left : Search → Dispatcher) → (isRefusal (e .report) ≡ false → P (told (e .report) (left (e .search))))
-      → P (cond (isRefusal (e .report)) (told (e .report) d) (told (e .report) (left (e .search))))
-  settled e left accepted = go (isRefusal (e .report)) refl
+  -- then what the held search alone answers, and what is left where it accepts
+  settled : (e : Entered) (next : Dispatcher) → (isRefusal (e .report) ≡ false → P (told (e .report) next)) → P (settledBy d e next)
+  settled e next accepted = go (isRefusal (e .report)) refl
     where
-      go : (b : Bool) → isRefusal (e .report) ≡ b → P (cond b (told (e .report) d) (told (e .report) (left (e .search))))
-      go true t = kept (e .report) t
-      go false t = accepted t
+      go : (b : Bool) → isRefusal (e .report) ≡ b → P (settledBy d e next)
+      go true t = subst P (sym (settled-refused d e next t)) (kept (e .report) t)
+      go false t = subst P (sym (settled-accepted d e next t)) (accepted t)
 
   pub call-cases : (c : Call)
       → (Due d c → isRefusal (loneAt d c .report) ≡ false → P (told (loneAt d c .report) (leftBy d c (loneAt d c .search))))
       → P (callOf d c)
-  unfolding openingAt answerAt openedBy answeredBy
+  unfolding openingAt answerAt
   call-cases (opening i o) accepted =
-      checked i stillSearching (unfinished (searchAt d i)) _ (λ h w. settled (reopenOf (searchAt d i) o) (withSearch d i) (accepted (h, w)))
+      checked i stillSearching (unfinished (searchAt d i)) _ (λ h w. settled (loneAt d (opening i o)) _ (accepted (h, w)))
   call-cases (answer i a) accepted =
       checked i notItsTurn (not (isDryer (turnOf d) i)) _ (λ h w.
-      settled (enterOf (searchAt d i) (a .point) (a .value)) (servedAt d i) (accepted (h, turn-is (turnOf d) i (not-not (isDryer (turnOf d) i) w))))
+      settled (loneAt d (answer i a)) _ (accepted (h, turn-is (turnOf d) i (not-not (isDryer (turnOf d) i) w))))
 
 -- where neither 14 nor 15 nor 16 applies, what is reported is what the held search alone reports
-module _ (d : Dispatcher) where
-  both : (e : Entered) (b : Bool) (left : Dispatcher) → cond b (told (e .report) d) (told (e .report) left) .report ≡ e .report
-  both e true left = refl
-  both e false left = refl
-
-  pub due-report : (c : Call) → Due d c → callOf d c .report ≡ loneAt d c .report
-  unfolding openedBy answeredBy
-  due-report (opening i o) due =
-      let e = reopenOf (searchAt d i) o in
-      ap (λ (r : Dispatched). r .report) (opening-due d i o (due .0) (due .1)) ∙ both e (isRefusal (e .report)) (withSearch d i (e .search))
-  due-report (answer i a) due =
-      let e = enterOf (searchAt d i) (a .point) (a .value) in
-      let turn : isDryer (turnOf d) i ≡ true = ap (λ (t : Turn). isDryer t i) (due .1) ∙ eq-eqb i i refl in
-      ap (λ (r : Dispatched). r .report) (answer-due d i a (due .0) turn) ∙ both e (isRefusal (e .report)) (servedAt d i (e .search))
+pub due-report : (d : Dispatcher) (c : Call) → Due d c → callOf d c .report ≡ loneAt d c .report
+due-report d (opening i o) due =
+    ap (λ (r : Dispatched). r .report) (opening-due d i o (due .0) (due .1)) ∙ settled-report d (loneAt d (opening i o)) _
+due-report d (answer i a) due =
+    let turn : isDryer (turnOf d) i ≡ true = ap (λ (t : Turn). isDryer t i) (due .1) ∙ eq-eqb i i refl in
+    ap (λ (r : Dispatched). r .report) (answer-due d i a (due .0) turn) ∙ settled-report d (loneAt d (answer i a)) _
 
 pub due-dryer : (d : Dispatcher) (c : Call) → Due d c → dryerOf c < dryers
 due-dryer d (opening i o) due = due .0

@@ -13,7 +13,7 @@ use Rattle.rules.specs.Search.{beginOf, offerOf, takeOf, progressOf, bracketRep
 use Rattle.held.specs.Held.{freshOf, reopenOf, standingOf, heldReport, enterOf}
 use Rattle.dispatching.specs.declared.Dispatcher.{Dispatcher}
 use Rattle.dispatching.specs.declared.Turn.{Turn}
-use Rattle.dispatching.specs.Dispatching.{freshDispatcher, searchAt, unfinished, firstFrom, turnOf, raised, openedBy, answeredBy, openingAt}
+use Rattle.dispatching.specs.Dispatching.{freshDispatcher, searchAt, unfinished, firstFrom, turnOf, raised, settledBy, openingAt}
 use Rattle.dispatching.specs.Dispatching.{answerAt, dryerReport}
 use Rattle.dispatching.specs.Calls.{Call, opening, answer, callOf, dispatcherAfter, reportsOf, servings, servingsIn, ownCalls, since, historyAt}
 
@@ -150,7 +150,7 @@ record Worked : Type 0 where
   served-at-ceiling : callOf (counted three 1000000000) (first 1) .dispatcher .count ≡ 1000000000
 
 worked : Worked
-unfolding turnOf firstFrom unfinished heldReport standingOf progressOf beginOf openingRefusal reportAt openingAt answerAt openedBy answeredBy
+unfolding turnOf firstFrom unfinished heldReport standingOf progressOf beginOf openingRefusal reportAt openingAt answerAt settledBy
     reopenOf reportOf enterOf takeOf offerOf answerRefusal sameSide bracketReport raised dryerReport dispatcherAfter reportsOf servings ownCalls
     stoppedOf startOf toleranceAt
 worked =

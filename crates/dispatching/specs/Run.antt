@@ -1,8 +1,8 @@
--- The claim of request 2026-04 about whole runs: for every dispatcher that a host may hold and every list of calls, of any length, one
--- record whose fields are the request's sentences, said of every place of the run; and what is said from a fresh dispatcher on. Nothing is
--- proved here: `run`, `fresh-run` and `independent` in RunHolds are the proofs.
+-- The claim of request 2026-04 about whole runs: for every dispatcher that a host may hold, and so for a fresh one, and every list of calls, of
+-- any length, one record whose fields are the request's sentences, said of every place of the run. Nothing is proved here: `run` in RunHolds is
+-- the proof.
 -- Assumes nothing.
-use Prim.Native.Nat.{ℕ, _+_, _≤_, _<_, _%_, min}
+use Prim.Native.Nat.{ℕ, _+_, _≤_, _<_, _%_}
 use mathlib.Core.Path.{_≡_}
 use mathlib.Core.Logic.{_≢_}
 use mathlib.Core.Bool.{true, false}
@@ -18,8 +18,8 @@ use Rattle.journal.specs.Journal.{journalReport}
 use Rattle.journal.specs.Run.{into, journalOf, holding, Run}
 use Rattle.dispatching.specs.declared.Dispatcher.{Dispatcher}
 use Rattle.dispatching.specs.declared.Turn.{Turn}
-use Rattle.dispatching.specs.Dispatching.{dryers, ceiling, freshDispatcher, searchAt, unfinished, startAfter, turnOf, dryerReport}
-use Rattle.dispatching.specs.Calls.{Call, callOf, dryerOf, dispatcherAfter, dispatcherAt, servedBy, servings, servingsIn, among, countAfter}
+use Rattle.dispatching.specs.Dispatching.{dryers, searchAt, unfinished, startAfter, turnOf, dryerReport}
+use Rattle.dispatching.specs.Calls.{Call, callOf, dryerOf, dispatcherAt, servedBy, servings, servingsIn, among, countAfter}
 use Rattle.dispatching.specs.Calls.{ownCalls, loneOf, loneAfter, Due, none, since, historyAt}
 
 -- ---- words of the claim
@@ -49,24 +49,33 @@ pub record Kept (s : Search) (o : Opening) (answers : List Answer) : Type 0 wher
   pub report : heldReport s ≡ journalReport o answers
   pub run : Run o (map into answers)
 
+-- ---- at each place
+
+-- what is true of a dispatcher, and of whatever call c comes next
+pub record AtEach (d : Dispatcher) : Type 0 where
+  -- the oven's turn goes to the next dryer, counting round from the one after the last served, whose search is accepted and unfinished
+  pub next : (i : ℕ) → turnOf d ≡ Turn.Dryer i → First (d .searches) (startAfter (d .last)) dryers i
+  -- where nobody has it, no dryer's is
+  pub nobody : (i : ℕ) → turnOf d ≡ Turn.Nobody → i < dryers → unfinished (searchAt d i) ≡ false
+  -- a turn is served by an accepted answer: whoever a call serves has the turn, and is then the last served
+  pub in-turn : (i : ℕ) (c : Call) → servedBy d c ≡ i ∷ [] → turnOf d ≡ Turn.Dryer i
+  pub marked : (i : ℕ) (c : Call) → servedBy d c ≡ i ∷ [] → callOf d c .dispatcher .last ≡ i
+  -- a call that serves nobody leaves the mark
+  pub unmarked : (c : Call) → servedBy d c ≡ [] → callOf d c .dispatcher .last ≡ d .last
+  -- a refused answer leaves the turn: a refused call leaves everything
+  pub refused : (c : Call) → isRefusal (callOf d c .report) ≡ true → callOf d c .dispatcher ≡ d
+  -- a call for one dryer changes no other dryer's search
+  pub others : (i : ℕ) (c : Call) → i ≢ dryerOf c → searchAt (callOf d c .dispatcher) i ≡ searchAt d i
+  -- where neither 14 nor 15 nor 16 applies, a call reports what the held search alone reports
+  pub lone : (c : Call) → Due d c → callOf d c .report ≡ loneOf (searchAt d (dryerOf c)) c .report
+  -- and where it is accepted, that is the report of its dryer's search as it then stands
+  pub told : (c : Call) → isRefusal (callOf d c .report) ≡ false → callOf d c .report ≡ dryerReport (callOf d c .dispatcher) (dryerOf c)
+
 -- ---- the claim
 
--- at every place p of the run, and for whatever call c comes next there
 pub record DispatcherRun (d : Dispatcher) (calls : List Call) : Type 0 where
-  -- the oven's turn goes to the next dryer, counting round from the one after the last served, whose search is accepted and unfinished
-  pub next : (p i : ℕ) → turnOf (dispatcherAt d calls p) ≡ Turn.Dryer i
-      → First (dispatcherAt d calls p .searches) (startAfter (dispatcherAt d calls p .last)) dryers i
-  -- where nobody has it, no dryer's is
-  pub nobody : (p i : ℕ) → turnOf (dispatcherAt d calls p) ≡ Turn.Nobody → i < dryers → unfinished (searchAt (dispatcherAt d calls p) i) ≡ false
-  -- a turn is served by an accepted answer: whoever a call serves has the turn, and is then the last served
-  pub in-turn : (p i : ℕ) (c : Call) → servedBy (dispatcherAt d calls p) c ≡ i ∷ [] → turnOf (dispatcherAt d calls p) ≡ Turn.Dryer i
-  pub marked : (p i : ℕ) (c : Call) → servedBy (dispatcherAt d calls p) c ≡ i ∷ [] → callOf (dispatcherAt d calls p) c .dispatcher .last ≡ i
-  -- a call that serves nobody, a refused answer among them, leaves the mark
-  pub unmarked : (p : ℕ) (c : Call) → servedBy (dispatcherAt d calls p) c ≡ []
-      → callOf (dispatcherAt d calls p) c .dispatcher .last ≡ dispatcherAt d calls p .last
-  -- a refused call leaves everything
-  pub refused : (p : ℕ) (c : Call) → isRefusal (callOf (dispatcherAt d calls p) c .report) ≡ true
-      → callOf (dispatcherAt d calls p) c .dispatcher ≡ dispatcherAt d calls p
+  -- all this, at every place p of the run
+  pub at-each : (p : ℕ) → AtEach (dispatcherAt d calls p)
   -- a dryer whose search is accepted and unfinished waits for at most five served answers before its own turn
   pub waiting : (p n i : ℕ) → i < dryers → unfinished (searchAt (dispatcherAt d calls p) i) ≡ true → among i (servingsIn d calls p n) ≡ false
       → Waits d calls p n i
@@ -74,39 +83,17 @@ pub record DispatcherRun (d : Dispatcher) (calls : List Call) : Type 0 where
   pub served : (p : ℕ) → dispatcherAt d calls p .count ≡ countAfter (d .count) (length (servings d (take p calls)))
   -- the search at a dryer is that of its own accepted calls alone
   pub apart : (p i : ℕ) → searchAt (dispatcherAt d calls p) i ≡ loneAfter (searchAt d i) (ownCalls d i (take p calls))
-  -- a call for one dryer changes no other dryer's search
-  pub others : (p i : ℕ) (c : Call) → i ≢ dryerOf c → searchAt (callOf (dispatcherAt d calls p) c .dispatcher) i ≡ searchAt (dispatcherAt d calls p) i
-  -- where neither 14 nor 15 nor 16 applies, a call reports what the held search alone reports
-  pub lone : (p : ℕ) (c : Call) → Due (dispatcherAt d calls p) c
-      → callOf (dispatcherAt d calls p) c .report ≡ loneOf (searchAt (dispatcherAt d calls p) (dryerOf c)) c .report
-  -- and where it is accepted, that is the report of its dryer's search as it then stands
-  pub told : (p : ℕ) (c : Call) → isRefusal (callOf (dispatcherAt d calls p) c .report) ≡ false
-      → callOf (dispatcherAt d calls p) c .report ≡ dryerReport (callOf (dispatcherAt d calls p) c .dispatcher) (dryerOf c)
   -- once an opening has been accepted for a dryer, its search keeps demand 3 with that opening and the answers accepted since
   pub kept : (p i : ℕ) (o : Opening) (answers : List Answer) → historyAt d calls p i ≡ since o answers
       → Kept (searchAt (dispatcherAt d calls p) i) o answers
+  -- a dryer with no search has none as long as no opening is accepted for it; at a fresh dispatcher that is every dryer
+  pub none-yet : (p i : ℕ) → searchAt d i ≡ blank → historyAt d calls p i ≡ none → searchAt (dispatcherAt d calls p) i ≡ blank
+  -- the settings called for at a dryer depend on its own opening and values only: wherever in any run of any dispatcher d' a dryer began with
+  -- the same search and the same calls were accepted for it, whatever the other dryers do, the report there is the same
+  pub independent : (p p' i : ℕ) (d' : Dispatcher) (calls' : List Call) → length (d' .searches) ≡ dryers
+      → searchAt d i ≡ searchAt d' i → ownCalls d i (take p calls) ≡ ownCalls d' i (take p' calls')
+      → dryerReport (dispatcherAt d calls p) i ≡ dryerReport (dispatcherAt d' calls' p') i
 
 -- for every dispatcher, which has six searches, and every list of calls
 abbrev pub EveryDispatcherRun : Type 0
 EveryDispatcherRun = (d : Dispatcher) → length (d .searches) ≡ dryers → (calls : List Call) → DispatcherRun d calls
-
--- ---- from a fresh dispatcher on
-
-pub record FreshRun (calls : List Call) : Type 0 where
-  -- the count is the number of served answers, up to the ceiling
-  pub served : (p : ℕ) → dispatcherAt freshDispatcher calls p .count ≡ min (length (servings freshDispatcher (take p calls))) ceiling
-  -- a dryer for which no opening was accepted has no search
-  pub none-yet : (p i : ℕ) → i < dryers → historyAt freshDispatcher calls p i ≡ none → searchAt (dispatcherAt freshDispatcher calls p) i ≡ blank
-
-abbrev pub EveryFreshRun : Type 0
-EveryFreshRun = (calls : List Call) → FreshRun calls
-
--- ---- two runs
-
--- where two runs begin with the same search at a dryer and accept the same calls for it, whatever the other dryers do, the report there is
--- the same: the settings called for at a dryer depend on its own opening and values only
-abbrev pub Independent : Type 0
-Independent =
-    (d d' : Dispatcher) → length (d .searches) ≡ dryers → length (d' .searches) ≡ dryers → (calls calls' : List Call) (i : ℕ)
-    → searchAt d i ≡ searchAt d' i → ownCalls d i calls ≡ ownCalls d' i calls'
-    → dryerReport (dispatcherAfter d calls) i ≡ dryerReport (dispatcherAfter d' calls') i

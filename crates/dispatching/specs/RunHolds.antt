@@ -2,12 +2,12 @@
 -- it, and at first they are five at most; the rest is one call at a time, and induction.
 -- Assumes nothing.
 use Prim.Native.Nat.{ℕ, _+_, _≤_, _<_}
-use mathlib.Core.Path.{_≡_, refl, sym, ap, ap₂, subst, _∙_}
+use mathlib.Core.Path.{_≡_, sym, ap, ap₂, subst, _∙_}
 use mathlib.Core.Bool.{true, false, cond, not}
 use mathlib.Core.List.{List}
 use native.Mathlib.Omega.{arith}
 use lib.Dec.{ltb}
-use lib.ListN.{length, take, drop, getD-replicate}
+use lib.ListN.{length, take, drop}
 use Rattle.rules.specs.declared.Opening.{Opening}
 use Rattle.rules.specs.declared.Answer.{Answer}
 use Rattle.rules.specs.declared.Report.{Report}
@@ -15,9 +15,9 @@ use Rattle.held.specs.declared.Search.{Search}
 use Rattle.held.specs.Held.{blank, heldReport}
 use Rattle.dispatching.specs.declared.Dispatcher.{Dispatcher}
 use Rattle.dispatching.specs.declared.Turn.{Turn}
-use Rattle.dispatching.specs.Dispatching.{dryers, noSuchDryer, freshDispatcher, searchAt, unfinished, turnOf, dryerReport}
-use Rattle.dispatching.specs.Calls.{Call, dispatcherAfter, dispatcherAt, servings, servingsIn, among, loneAfter, since, historyAt}
-use Rattle.dispatching.specs.Run.{Waits, Kept, EveryDispatcherRun, EveryFreshRun, Independent}
+use Rattle.dispatching.specs.Dispatching.{dryers, noSuchDryer, searchAt, unfinished, turnOf, dryerReport}
+use Rattle.dispatching.specs.Calls.{Call, dispatcherAfter, dispatcherAt, servings, servingsIn, among, loneAfter, none, since, historyAt}
+use Rattle.dispatching.specs.Run.{Waits, Kept, AtEach, EveryDispatcherRun}
 use Rattle.dispatching.specs.DispatchingLaws.{queued-somewhere, next-turn, turn-first, turn-none, due-report}
 use Rattle.dispatching.specs.RunLaws.{after-append, take-more, six-calls, refusal-keeps, served-in-turn, unserved-mark, Nearer, after-calls}
 use Rattle.dispatching.specs.RunLaws.{count-calls, others-keep, own-calls}
@@ -70,39 +70,41 @@ module _ (d : Dispatcher) (six : length (d .searches) ≡ dryers) (calls : List 
       booked-kept (searchAt (dispatcherAt d calls p) i) o answers
       (subst (Holds (λ s. Unit {0}) (λ s a n t. tt) (searchAt (dispatcherAt d calls p) i)) e known)
 
--- ---- the claims
+-- ---- a dryer with no search
+
+no-search : (d : Dispatcher) → length (d .searches) ≡ dryers → (calls : List Call) (p i : ℕ) → searchAt d i ≡ blank → historyAt d calls p i ≡ none
+    → searchAt (dispatcherAt d calls p) i ≡ blank
+no-search d six calls p i b e =
+    subst (Holds (λ s. s ≡ blank) (λ s a. blank-stays s a) (searchAt (dispatcherAt d calls p) i)) e
+    (holds-calls (λ s. s ≡ blank) (λ s a. blank-stays s a) d six i b (take p calls))
+
+-- ---- the claim
+
+at-each : (d : Dispatcher) → length (d .searches) ≡ dryers → AtEach d
+at-each d six =
+    record {
+      next = turn-first d;
+      nobody = λ i t. turn-none d t i;
+      in-turn = λ i c e. served-in-turn d c i e .0;
+      marked = λ i c e. served-in-turn d c i e .1;
+      unmarked = unserved-mark d;
+      refused = refusal-keeps d;
+      others = λ i c. others-keep d c i;
+      lone = due-report d;
+      told = call-told d six;
+    }
 
 pub run : EveryDispatcherRun
+unfolding dryerReport
 run d six calls =
-    let at : ℕ → Dispatcher = dispatcherAt d calls in
-    let six-at : (p : ℕ) → length (at p .searches) ≡ dryers = λ p. six-calls d six (take p calls) in
     record {
-      next = λ p i. turn-first (at p) i;
-      nobody = λ p i t. turn-none (at p) t i;
-      in-turn = λ p i c e. served-in-turn (at p) c i e .0;
-      marked = λ p i c e. served-in-turn (at p) c i e .1;
-      unmarked = λ p c. unserved-mark (at p) c;
-      refused = λ p c. refusal-keeps (at p) c;
+      at-each = λ p. at-each (dispatcherAt d calls p) (six-calls d six (take p calls));
       waiting = λ p n i. waits d calls p n i;
       served = λ p. count-calls d (take p calls);
       apart = λ p i. own-calls d six i (take p calls);
-      others = λ p i c. others-keep (at p) c i;
-      lone = λ p c. due-report (at p) c;
-      told = λ p c. call-told (at p) (six-at p) c;
       kept = λ p i o answers. keeps d six calls p i o answers;
+      none-yet = λ p i. no-search d six calls p i;
+      independent = λ p p' i d' calls' six' e f.
+          ap (λ (s : Search). cond (not (ltb i dryers)) (Report.Refused noSuchDryer 0) (heldReport s))
+          (own-calls d six i (take p calls) ∙ ap₂ loneAfter e f ∙ sym (own-calls d' six' i (take p' calls')));
     }
-
-pub fresh-run : EveryFreshRun
-fresh-run calls =
-    record {
-      served = λ p. count-calls freshDispatcher (take p calls) ∙ omega arith;
-      none-yet = λ p i h e.
-          subst (Holds (λ s. s ≡ blank) (λ s a. blank-stays s a) (searchAt (dispatcherAt freshDispatcher calls p) i)) e
-          (holds-calls (λ s. s ≡ blank) (λ s a. blank-stays s a) freshDispatcher refl i (getD-replicate dryers i blank blank h) (take p calls));
-    }
-
-pub independent : Independent
-unfolding dryerReport
-independent d d' six six' calls calls' i e f =
-    ap (λ (s : Search). cond (not (ltb i dryers)) (Report.Refused noSuchDryer 0) (heldReport s))
-    (own-calls d six i calls ∙ ap₂ loneAfter e f ∙ sym (own-calls d' six' i calls'))

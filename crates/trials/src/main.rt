@@ -177,60 +177,67 @@ fn try_junk(count: u32) {
     show(b"value ", report);
 }
 
-// Eleven calls to a fresh dispatcher, with room for the reports of ten: openings for dryers 4, 1 and 2; an answer out of turn, one at another
-// point, and one for dryer 1, which has the turn; openings for an unfinished search, with equal ends, and for dryer 6; an answer for dryer 2.
-// Then the last served, the count, and whose turn it is.
+// Eleven calls to a dispatcher, by kind, dryer and numbers: openings for dryers 4, 1 and 2; an answer out of turn, one at another point, and
+// one for dryer 1, which has the turn; openings for an unfinished search, with equal ends, and for dryer 6; answers for dryers 2 and 4.
+const KINDS: [u8; 11] = [0, 0, 0, 1, 1, 1, 0, 0, 0, 1, 1];
+
+const DRYERS: [u32; 11] = [4, 1, 2, 4, 1, 1, 1, 0, 6, 2, 4];
+
+const NUMBERS: [i32; 44] = [
+    1,
+    0,
+    100,
+    1,
+    1,
+    0,
+    100,
+    1,
+    1,
+    0,
+    100,
+    1,
+    0,
+    1,
+    0,
+    0,
+    7,
+    1,
+    0,
+    0,
+    0,
+    1,
+    0,
+    0,
+    1,
+    0,
+    100,
+    1,
+    1,
+    5,
+    5,
+    1,
+    1,
+    0,
+    100,
+    1,
+    0,
+    1,
+    0,
+    0,
+    0,
+    1,
+    0,
+    0,
+];
+
+// The reports of these calls to a fresh dispatcher, as far as there is room for ten; then the last served, the count, and whose turn it is.
 fn try_dispatcher() {
-    let kinds = [0u8, 0, 0, 1, 1, 1, 0, 0, 0, 1, 1];
-    let dryers = [4u32, 1, 2, 4, 1, 1, 1, 0, 6, 2, 4];
-    let numbers = [
-        1i32,
-        0,
-        100,
-        1,
-        1,
-        0,
-        100,
-        1,
-        1,
-        0,
-        100,
-        1,
-        0,
-        1,
-        0,
-        0,
-        7,
-        1,
-        0,
-        0,
-        0,
-        1,
-        0,
-        0,
-        1,
-        0,
-        100,
-        1,
-        1,
-        5,
-        5,
-        1,
-        1,
-        0,
-        100,
-        1,
-        0,
-        1,
-        0,
-        0,
-        0,
-        1,
-        0,
-        0,
-    ];
+    let kinds = KINDS;
+    let dryers = DRYERS;
+    let numbers = NUMBERS;
     let mut rows = [9u32; 10 * dispatch_runs::NUMBERS_EACH];
-    let after = dispatch_runs::make_calls(dispatch::fresh(), &kinds, &dryers, &numbers, &mut rows);
+    let fresh = dispatch::fresh();
+    let after = dispatch_runs::make_calls(fresh, &kinds, &dryers, &numbers, &mut rows);
     show_rows(&rows);
     show_number(after.last, b',');
     show_number(after.count, b',');

@@ -5,9 +5,10 @@ use mir.Syntax.{w32}
 use mir.Val.{SFits}
 use Rattle.integers.specs.Bounds.{read}
 use Rattle.held.specs.declared.Search.{Search}
+use Rattle.held.specs.declared.Entered.{Entered}
 use Rattle.held.specs.Held.{enterOf}
 use Rattle.dispatching.specs.declared.Turn.{Turn}
-use Rattle.dispatching.specs.Dispatching.{isDryer, answeredBy}
+use Rattle.dispatching.specs.Dispatching.{isDryer, servedAt, settledBy}
 use Rattle.dispatching.specs.DispatchingLaws.{answer-nowhere, answer-early, answer-due}
 use borrow.Author.Needs.{needs}
 use Rattle.dispatch.proofs.enter.Statement.{statement}
@@ -45,7 +46,7 @@ returns-2 c =
     let p : SFits w32 (s .answer .point) = search needs in
     let v : SFits w32 (s .answer .value) = search needs in
     c .answered .ensures
-    ∙ ap (answeredBy (s .d) (s .dryer))
+    ∙ ap (λ (x : Entered). settledBy (s .d) x (servedAt (s .d) (s .dryer) (x .search)))
     ((rw (read p, read v) at (e .enter .ensures)) ∙ ap (λ (h : Search). enterOf h (s .answer .point) (s .answer .value)) (at .search-at .ensures))
     ∙ sym (answer-due (s .d) (s .dryer) (s .answer) (t .before .before .if1 .left)
     (sym (ap (λ (u : Turn). isDryer u (s .dryer)) (t .before .turn .ensures)) ∙ sym (t .is-dryer .ensures) ∙ at .before .if2 .taken))

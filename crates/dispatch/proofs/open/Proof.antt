@@ -2,8 +2,9 @@
 -- Assumes nothing.
 use mathlib.Core.Path.{sym, ap, _∙_}
 use Rattle.held.specs.declared.Search.{Search}
+use Rattle.held.specs.declared.Entered.{Entered}
 use Rattle.held.specs.Held.{reopenOf}
-use Rattle.dispatching.specs.Dispatching.{unfinished, openedBy}
+use Rattle.dispatching.specs.Dispatching.{unfinished, withSearch, settledBy}
 use Rattle.dispatching.specs.DispatchingLaws.{opening-nowhere, opening-early, opening-due}
 use borrow.Author.Needs.{needs}
 use Rattle.dispatch.proofs.open.Statement.{statement}
@@ -46,7 +47,7 @@ returns-3 c =
     let a = w .before in
     let s = a .before .before .args in
     c .opened .ensures
-    ∙ ap (openedBy (s .d) (s .dryer)) (c .before .reopen .ensures ∙ ap (λ (h : Search). reopenOf h (s .opening)) (a .search-at .ensures))
+    ∙ ap (λ (e : Entered). settledBy (s .d) e (withSearch (s .d) (s .dryer) (e .search))) (c .before .reopen .ensures ∙ ap (λ (h : Search). reopenOf h (s .opening)) (a .search-at .ensures))
     ∙ sym (opening-due (s .d) (s .dryer) (s .opening) (a .before .if1 .left)
     (sym (ap unfinished (a .search-at .ensures)) ∙ sym (w .goes-on .ensures) ∙ c .before .before .if2 .left))
 
