@@ -5,7 +5,7 @@ use Prim.Native.Nat.{ℕ, zero, suc, _+_, _≤_, _<_}
 use mathlib.Core.Path.{_≡_, refl, sym, ap, subst, _∙_}
 use mathlib.Core.Logic.{_≢_}
 use mathlib.Core.Bool.{Bool, true, false, cond, not, _||_}
-use mathlib.Core.List.{List, [], _∷_, _++_}
+use mathlib.Core.List.{List, [], _∷_, _++_, append-nil, append-assoc}
 use native.Mathlib.Omega.{arith}
 use borrow.Author.Tests.{ltb-true, ltb-false, eqb-true, eqb-false}
 use lib.Dec.{ltb, eqb}
@@ -207,27 +207,19 @@ module _ (d : Dispatcher) (six : length (d .searches) ≡ dryers) (i : ℕ) (c :
       go due t false e =
           subst (λ (s : Search). Q s []) (sym (left-other d c (loneAt d c .search) i (λ m. eqb-false (dryerOf c) i e (sym m)))) same
 
--- by induction, where P goes on from a search with its own calls so far
+-- a run, by induction: Q holds of a dryer's search and its own calls so far, and goes on holding with each accepted call for it
 module _ (i : ℕ) (Q : Search → List Call → Type 0)
     (one : (d : Dispatcher) (before : List Call) (c : Call) → dryerOf c ≡ i → Q (searchAt d i) before → isRefusal (loneAt d c .report) ≡ false
     → Q (loneAt d c .search) (before ++ (c ∷ []))) where
-  append-none : (l : List Call) → l ≡ l ++ []
-  append-none [] = refl
-  append-none (c ∷ l) = ap (λ (m : List Call). c ∷ m) (append-none l)
-
-  append-again : (a b c : List Call) → (a ++ b) ++ c ≡ a ++ (b ++ c)
-  append-again [] b c = refl
-  append-again (x ∷ a) b c = ap (λ (m : List Call). x ∷ m) (append-again a b c)
-
   pub own-run : (d : Dispatcher) → length (d .searches) ≡ dryers → (before : List Call) → Q (searchAt d i) before → (calls : List Call)
       → Q (searchAt (dispatcherAfter d calls) i) (before ++ ownCalls d i calls)
   unfolding dispatcherAfter ownCalls
-  own-run d six before q [] = subst (Q (searchAt d i)) (append-none before) q
+  own-run d six before q [] = subst (Q (searchAt d i)) (sym (append-nil before)) q
   own-run d six before q (c ∷ calls) =
       let next = callOf d c .dispatcher in
-      subst (Q (searchAt (dispatcherAfter next calls) i)) (append-again before (ownBy d i c) (ownCalls next i calls))
+      subst (Q (searchAt (dispatcherAfter next calls) i)) (append-assoc before (ownBy d i c) (ownCalls next i calls))
       (own-run next (six-call d c six) (before ++ ownBy d i c)
-      (own-cases d six i c (λ s cs. Q s (before ++ cs)) (subst (Q (searchAt d i)) (append-none before) q) (λ is t. one d before c is q t)) calls)
+      (own-cases d six i c (λ s cs. Q s (before ++ cs)) (subst (Q (searchAt d i)) (sym (append-nil before)) q) (λ is t. one d before c is q t)) calls)
 
 -- the search at a dryer is that of its own accepted calls alone
 pub own-calls : (d : Dispatcher) → length (d .searches) ≡ dryers → (i : ℕ) (calls : List Call)
