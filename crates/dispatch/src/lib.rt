@@ -67,10 +67,9 @@ fn refused(d: Dispatcher, number: u32) -> Dispatched
     }
 }
 
-// What an opening answers, once the dryer may have it.
-fn opened(d: Dispatcher, dryer: u32, e: Entered) -> Dispatched
-    requires { ⌜ dryer < dryers ⌝ }
-    ensures { λ r. ⌜ r ≡ settledBy d e (withSearch d dryer (e .search)) ⌝ }
+// What is left once the search has answered: where it refuses, the dispatcher as it was; where it accepts, `next`.
+fn settled(d: Dispatcher, e: Entered, next: Dispatcher) -> Dispatched
+    ensures { λ r. ⌜ r ≡ settledBy d e next ⌝ }
 {
     let report = e.report;
     if refusals::is_refusal(report) {
@@ -79,29 +78,9 @@ fn opened(d: Dispatcher, dryer: u32, e: Entered) -> Dispatched
             dispatcher: d,
         };
     }
-    let search = e.search;
     Dispatched {
         report,
-        dispatcher: with_search(d, dryer, search),
-    }
-}
-
-// What an answer answers, once the dryer has the turn.
-fn answered(d: Dispatcher, dryer: u32, e: Entered) -> Dispatched
-    requires { ⌜ dryer < dryers ⌝ }
-    ensures { λ r. ⌜ r ≡ settledBy d e (servedAt d dryer (e .search)) ⌝ }
-{
-    let report = e.report;
-    if refusals::is_refusal(report) {
-        return Dispatched {
-            report,
-            dispatcher: d,
-        };
-    }
-    let search = e.search;
-    Dispatched {
-        report,
-        dispatcher: served(d, dryer, search),
+        dispatcher: next,
     }
 }
 
@@ -149,7 +128,9 @@ pub fn open(d: Dispatcher, dryer: u32, opening: Opening) -> Dispatched
     if turns::goes_on(search) {
         return refused(d, rules::STILL_SEARCHING);
     }
-    opened(d, dryer, search.reopen(opening))
+    let e = search.reopen(opening);
+    let fresh = e.search;
+    settled(d, e, with_search(d, dryer, fresh))
 }
 
 // An answer for a dryer: the turn is served, or the answer refused.
@@ -162,7 +143,9 @@ pub fn enter(d: Dispatcher, dryer: u32, answer: Answer) -> Dispatched
     let holder = turns::turn(d);
     if is_dryer(holder, dryer) {
         let search = turns::search_at(d, dryer);
-        return answered(d, dryer, search.enter(answer.point, answer.value));
+        let e = search.enter(answer.point, answer.value);
+        let more = e.search;
+        return settled(d, e, served(d, dryer, more));
     }
     refused(d, rules::NOT_ITS_TURN)
 }

@@ -2,14 +2,13 @@
 -- keeps of any run.
 -- Assumes nothing.
 use Prim.Native.Nat.{ℕ, zero, suc, _+_, _≤_, _<_}
-use mathlib.Core.Path.{_≡_, refl, ap, _∙_}
-use mathlib.Core.List.{List, [], _∷_}
+use mathlib.Core.Path.{_≡_, refl, ap}
+use mathlib.Core.List.{List, _∷_}
 use native.Mathlib.Omega.{arith}
 use borrow.Author.Tests.{eq-eqb, ne-eqb}
 use lib.IntN.{ℤ}
 use lib.ListN.{length, drop}
-use Rattle.rules.specs.declared.Report.{Report}
-use Rattle.rules.specs.Rows.{writtenOver}
+use Rattle.rules.specs.RowsLaws.{InTurn}
 use Rattle.rules.specs.RowsLaws as Rows
 use Rattle.dispatching.specs.declared.Dispatcher.{Dispatcher}
 use Rattle.dispatching.specs.Dispatching.{dryers}
@@ -45,32 +44,31 @@ module _ (ks ds : List ℕ) (xs : List ℤ) where
 
 -- ---- the run so far
 
-abbrev told : Dispatcher → Call → Report
-told d c = callOf d c .report
-
-abbrev next : Dispatcher → Call → Dispatcher
-next d c = callOf d c .dispatcher
+-- calls made in turn to a dispatcher
+pub dispatchers : InTurn Dispatcher Call
+unfolding dispatcherAfter reportsOf
+dispatchers =
+    record {
+      told = λ d c. callOf d c .report;
+      next = λ d c. callOf d c .dispatcher;
+      after = dispatcherAfter;
+      reports = reportsOf;
+      after-none = λ d. refl;
+      after-one = λ d c calls. refl;
+      reports-none = λ d. refl;
+      reports-one = λ d c calls. refl;
+    }
 
 -- i of the calls, of the lists and from d₀ on, have led to the dispatcher d and the list `after`
 abbrev pub Made : Dispatcher → List ℕ → List ℕ → List ℤ → List ℕ → ℕ → Dispatcher → List ℕ → Type 0
-Made d₀ ks ds xs before = Rows.Made told next d₀ (callsIn ks ds xs before) before
-
-dispatcher-after : (d : Dispatcher) (calls : List Call) → Rows.afterAll told next d calls ≡ dispatcherAfter d calls
-unfolding dispatcherAfter
-dispatcher-after d [] = refl
-dispatcher-after d (c ∷ calls) = dispatcher-after (callOf d c .dispatcher) calls
-
-reports-told : (d : Dispatcher) (calls : List Call) → Rows.toldInTurn told next d calls ≡ reportsOf d calls
-unfolding reportsOf
-reports-told d [] = refl
-reports-told d (c ∷ calls) = ap (λ (rs : List Report). callOf d c .report ∷ rs) (reports-told (callOf d c .dispatcher) calls)
+Made d₀ ks ds xs before = Rows.Made dispatchers d₀ (callsIn ks ds xs before) before
 
 module _ (d₀ : Dispatcher) (ks ds : List ℕ) (xs : List ℤ) (before : List ℕ) where
   abbrev calls : List Call
   calls = callsIn ks ds xs before
 
   pub made-none : Made d₀ ks ds xs before 0 d₀ before
-  made-none = Rows.made-none told next d₀ calls before
+  made-none = Rows.made-none dispatchers d₀ calls before
 
   -- of m calls, which are all
   module _ {i m : ℕ} {d : Dispatcher} {list : List ℕ} (made : Made d₀ ks ds xs before i d list) (number : m ≡ howMany ks ds xs before) where
@@ -78,17 +76,19 @@ module _ (d₀ : Dispatcher) (ks ds : List ℕ) (xs : List ℤ) (before : List �
     one-before h = record { kind = omega arith; dryer = omega arith; numbers = omega arith; room = omega (arith, made .same) }
 
     pub made-more : i < m → {r : Dispatcher} {after : List ℕ} → CallMade i d ks ds xs list r after → Made d₀ ks ds xs before (i + 1) r after
+    unfolding dispatchers
     made-more h one =
         let here : 0 + i ≡ i = omega arith in
-        Rows.made-more told next d₀ calls before made (callAt ks ds xs i) (rw here at (calls-drop ks ds xs 0 (howMany ks ds xs before) i (omega arith)))
+        Rows.made-more dispatchers d₀ calls before made (callAt ks ds xs i) (rw here at (calls-drop ks ds xs 0 (howMany ks ds xs before) i (omega arith)))
         (one .left) (one .written)
 
     pub made-all : length (d₀ .searches) ≡ dryers → m ≤ i → DispatcherRuns d₀ ks ds xs before d list
+    unfolding dispatchers
     made-all six h =
         let count = calls-number ks ds xs 0 (howMany ks ds xs before) in
-        let all = Rows.made-all told next d₀ calls before made (omega (arith, count)) (omega (arith, count)) in
+        let all = Rows.made-all dispatchers d₀ calls before made (omega (arith, count)) (omega (arith, count)) in
         record {
-          left = all .0 ∙ dispatcher-after d₀ calls;
-          written = all .1 ∙ ap (λ (rs : List Report). writtenOver rs before) (reports-told d₀ calls);
+          left = all .0;
+          written = all .1;
           run = run d₀ six calls;
         }

@@ -50,6 +50,7 @@ searchAt d i = getD (d .searches) i blank
 
 -- ---- whose turn it is
 
+-- whether a report is a next point
 abbrev pub isNext : Report → Bool
 isNext (Report.Next x n) = true
 isNext (Report.Stop l u b n) = false
@@ -73,12 +74,14 @@ firstFrom ss at (suc n) =
 unfoldable pub turnOf : Dispatcher → Turn
 turnOf d = firstFrom (d .searches) (startAfter (d .last)) dryers
 
+-- whether it is dryer i's
 abbrev pub isDryer : Turn → ℕ → Bool
 isDryer (Turn.Dryer j) i = eqb j i
 isDryer Turn.Nobody i = false
 
 -- ---- what a call leaves
 
+-- a report, beside the dispatcher as it then is
 abbrev pub told : Report → Dispatcher → Dispatched
 told r d = record { report = r; dispatcher = d }
 

@@ -11,8 +11,8 @@ use lib.IntN.{ℤ, pos}
 use lib.ListN.{length, drop, getD}
 use lib.Seq.{sets}
 use Rattle.rules.specs.declared.Answer.{Answer}
-use Rattle.rules.specs.declared.Report.{Report}
-use Rattle.rules.specs.Rows.{rowOf, rowNumbers, numbersEach, writtenOver}
+use Rattle.rules.specs.Rows.{rowOf, rowNumbers, numbersEach}
+use Rattle.rules.specs.RowsLaws.{InTurn}
 use Rattle.rules.specs.RowsLaws as Rows
 use Rattle.held.specs.declared.Search.{Search}
 use Rattle.held.specs.declared.Entered.{Entered}
@@ -60,32 +60,31 @@ calls-drop (suc n) (k ∷ ks) (x ∷ xs) (v ∷ vs) (suc i) h =
 
 -- ---- the run so far
 
-abbrev told : Search → Call → Report
-told s c = callOf s c .report
-
-abbrev next : Search → Call → Search
-next s c = callOf s c .search
+-- calls made in turn to a search
+pub searches : InTurn Search Call
+unfolding searchAfter reportsOf
+searches =
+    record {
+      told = λ s c. callOf s c .report;
+      next = λ s c. callOf s c .search;
+      after = searchAfter;
+      reports = reportsOf;
+      after-none = λ s. refl;
+      after-one = λ s c calls. refl;
+      reports-none = λ s. refl;
+      reports-one = λ s c calls. refl;
+    }
 
 -- i of the calls, of the lists and from s₀ on, have led to the search s and the list `after`
 abbrev pub Made : Search → List ℕ → List ℤ → List ℤ → List ℕ → ℕ → Search → List ℕ → Type 0
-Made s₀ ks xs vs before = Rows.Made told next s₀ (callsIn ks xs vs before) before
-
-search-after : (s : Search) (calls : List Call) → Rows.afterAll told next s calls ≡ searchAfter s calls
-unfolding searchAfter
-search-after s [] = refl
-search-after s (c ∷ calls) = search-after (callOf s c .search) calls
-
-reports-told : (s : Search) (calls : List Call) → Rows.toldInTurn told next s calls ≡ reportsOf s calls
-unfolding reportsOf
-reports-told s [] = refl
-reports-told s (c ∷ calls) = ap (λ (rs : List Report). callOf s c .report ∷ rs) (reports-told (callOf s c .search) calls)
+Made s₀ ks xs vs before = Rows.Made searches s₀ (callsIn ks xs vs before) before
 
 module _ (s₀ : Search) (ks : List ℕ) (xs vs : List ℤ) (before : List ℕ) where
   abbrev calls : List Call
   calls = callsIn ks xs vs before
 
   pub made-none : Made s₀ ks xs vs before 0 s₀ before
-  made-none = Rows.made-none told next s₀ calls before
+  made-none = Rows.made-none searches s₀ calls before
 
   -- of m calls, which are all
   module _ {i m : ℕ} {s : Search} {list : List ℕ} (made : Made s₀ ks xs vs before i s list) (number : m ≡ shortest ks xs vs before) where
@@ -93,17 +92,19 @@ module _ (s₀ : Search) (ks : List ℕ) (xs vs : List ℤ) (before : List ℕ) 
     one-before h = record { kind = omega arith; point = omega arith; value = omega arith; room = omega (arith, made .same) }
 
     pub made-more : i < m → {r : Search} {after : List ℕ} → CallMade i s xs vs list r after → Made s₀ ks xs vs before (i + 1) r after
+    unfolding searches
     made-more h one =
         let same = call-at s ks xs vs i in
-        Rows.made-more told next s₀ calls before made (callAt ks xs vs i) (calls-drop (length before / numbersEach) ks xs vs i (omega arith))
+        Rows.made-more searches s₀ calls before made (callAt ks xs vs i) (calls-drop (length before / numbersEach) ks xs vs i (omega arith))
         (one .left ∙ ap (λ (e : Entered). e .search) same)
         (one .written ∙ ap (λ (e : Entered). sets list (numbersEach * i) (rowNumbers (rowOf (e .report)))) same)
 
     pub made-all : m ≤ i → CallsMade s₀ ks xs vs before s list
+    unfolding searches
     made-all h =
         let count = calls-number (length before / numbersEach) ks xs vs in
-        let all = Rows.made-all told next s₀ calls before made (omega (arith, count)) (omega (arith, count)) in
+        let all = Rows.made-all searches s₀ calls before made (omega (arith, count)) (omega (arith, count)) in
         record {
-          left = all .0 ∙ search-after s₀ calls;
-          written = all .1 ∙ ap (λ (rs : List Report). writtenOver rs before) (reports-told s₀ calls);
+          left = all .0;
+          written = all .1;
         }

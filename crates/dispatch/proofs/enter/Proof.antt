@@ -1,6 +1,6 @@
 -- `dispatch::enter` meets its contract: the dryer, the turn, then the answer.
 -- Assumes nothing.
-use mathlib.Core.Path.{sym, ap, _∙_}
+use mathlib.Core.Path.{_≡_, sym, ap, _∙_}
 use mir.Syntax.{w32}
 use mir.Val.{SFits}
 use Rattle.integers.specs.Bounds.{read}
@@ -8,7 +8,7 @@ use Rattle.held.specs.declared.Search.{Search}
 use Rattle.held.specs.declared.Entered.{Entered}
 use Rattle.held.specs.Held.{enterOf}
 use Rattle.dispatching.specs.declared.Turn.{Turn}
-use Rattle.dispatching.specs.Dispatching.{isDryer, servedAt, settledBy}
+use Rattle.dispatching.specs.Dispatching.{searchAt, isDryer, servedAt, settledBy}
 use Rattle.dispatching.specs.DispatchingLaws.{answer-nowhere, answer-early, answer-due}
 use borrow.Author.Needs.{needs}
 use Rattle.dispatch.proofs.enter.Statement.{statement}
@@ -34,20 +34,35 @@ search-at-requires c κs = search needs
 enter-requires : tie.Need-enter-requires
 enter-requires c κs = search needs
 
-answered-requires : tie.Need-answered-requires
-answered-requires c κs = search needs
+served-requires : tie.Need-served-requires
+served-requires c κs = search needs
+
+settled-requires : tie.Need-settled-requires
+settled-requires c κs = search needs
+
+-- the search at the dryer, and what it answers
+abbrev found : tie.After-enter → tie.After-search-at
+found e = e .before .before .before
+
+entered : (e : tie.After-enter)
+    → let s = found e .before .before .before .before .before .args in
+    e .enter .result ≡ enterOf (searchAt (s .d) (s .dryer)) (s .answer .point) (s .answer .value)
+entered e =
+    let s = found e .before .before .before .before .before .args in
+    let p : SFits w32 (s .answer .point) = search needs in
+    let v : SFits w32 (s .answer .value) = search needs in
+    (rw (read p, read v) at (e .enter .ensures)) ∙ ap (λ (h : Search). enterOf h (s .answer .point) (s .answer .value)) (found e .search-at .ensures)
 
 returns-2 : tie.Need-returns-2
 returns-2 c =
-    let e = c .before in
-    let at = e .before .before .before in
+    let w = c .before in
+    let e = w .before .before in
+    let at = found e in
     let t = at .before .before in
     let s = t .before .before .before .args in
-    let p : SFits w32 (s .answer .point) = search needs in
-    let v : SFits w32 (s .answer .value) = search needs in
-    c .answered .ensures
-    ∙ ap (λ (x : Entered). settledBy (s .d) x (servedAt (s .d) (s .dryer) (x .search)))
-    ((rw (read p, read v) at (e .enter .ensures)) ∙ ap (λ (h : Search). enterOf h (s .answer .point) (s .answer .value)) (at .search-at .ensures))
+    c .settled .ensures
+    ∙ ap (settledBy (s .d) (e .enter .result)) (w .served .ensures)
+    ∙ ap (λ (x : Entered). settledBy (s .d) x (servedAt (s .d) (s .dryer) (x .search))) (entered e)
     ∙ sym (answer-due (s .d) (s .dryer) (s .answer) (t .before .before .if1 .left)
     (sym (ap (λ (u : Turn). isDryer u (s .dryer)) (t .before .turn .ensures)) ∙ sym (t .is-dryer .ensures) ∙ at .before .if2 .taken))
 
@@ -72,7 +87,8 @@ enter-spec =
     is-dryer-requires
     search-at-requires
     enter-requires
-    answered-requires
+    served-requires
+    settled-requires
     returns-2
     refused-requires-2
     returns-3)

@@ -38,18 +38,25 @@ returns-2 c =
 reopen-requires : tie.Need-reopen-requires
 reopen-requires c κs = search needs
 
-opened-requires : tie.Need-opened-requires
-opened-requires c κs = search needs
+with-search-requires : tie.Need-with-search-requires
+with-search-requires c κs = search needs
+
+settled-requires : tie.Need-settled-requires
+settled-requires c κs = search needs
 
 returns-3 : tie.Need-returns-3
 returns-3 c =
-    let w = c .before .before .before in
-    let a = w .before in
+    let w = c .before in
+    let r = w .before .before in
+    let t = r .before .before in
+    let a = t .before in
     let s = a .before .before .args in
-    c .opened .ensures
-    ∙ ap (λ (e : Entered). settledBy (s .d) e (withSearch (s .d) (s .dryer) (e .search))) (c .before .reopen .ensures ∙ ap (λ (h : Search). reopenOf h (s .opening)) (a .search-at .ensures))
+    c .settled .ensures
+    ∙ ap (settledBy (s .d) (r .reopen .result)) (w .with-search .ensures)
+    ∙ ap (λ (e : Entered). settledBy (s .d) e (withSearch (s .d) (s .dryer) (e .search)))
+    (r .reopen .ensures ∙ ap (λ (h : Search). reopenOf h (s .opening)) (a .search-at .ensures))
     ∙ sym (opening-due (s .d) (s .dryer) (s .opening) (a .before .if1 .left)
-    (sym (ap unfinished (a .search-at .ensures)) ∙ sym (w .goes-on .ensures) ∙ c .before .before .if2 .left))
+    (sym (ap unfinished (a .search-at .ensures)) ∙ sym (t .goes-on .ensures) ∙ r .before .if2 .left))
 
 pub open-spec : {M : Type 1} → statement M
 open-spec =
@@ -62,5 +69,6 @@ open-spec =
     refused-requires-2
     returns-2
     reopen-requires
-    opened-requires
+    with-search-requires
+    settled-requires
     returns-3)
