@@ -1,3 +1,3 @@
 -- The modules of `specs/`.
-pub mod Listed
-pub mod ListedLaws
+pub mod Runs
+pub mod RunsLaws

@@ -1,72 +1,10 @@
 // A run of calls to a dispatcher, written down in lists and made for real: what the calls report and the dispatcher that they leave are those
 // of the claim about whole runs.
-ghost use mathlib.Core.Path.{_≡_};
-ghost use Rattle.dispatching.specs.Calls.{callOf};
-ghost use Rattle.dispatch_runs.specs.Listed.{callWith, howMany, Before, CallMade, DispatcherRuns};
-use dispatching::Dispatched;
+ghost use Rattle.dispatch_runs.specs.Runs.{DispatcherRuns};
 use dispatching::Dispatcher;
-use rules::Answer;
-use rules::Opening;
 
-// The numbers that a call is written as, after its kind and its dryer; and those that its report is written as.
-pub const CALL_NUMBERS: usize = 4;
-
-pub const NUMBERS_EACH: usize = runs::NUMBERS_EACH;
-
-// A call from its numbers: kind 0 is an opening, any other an answer.
-fn call(kind: u8, d: Dispatcher, dryer: u32, a: i32, b: i32, c: i32, e: i32) -> Dispatched
-    ensures { λ r. ⌜ r ≡ callOf d (callWith kind dryer a b c e) ⌝ }
-{
-    if kind == 0 {
-        let opening = Opening {
-            method: a,
-            first: b,
-            second: c,
-            tolerance: e,
-        };
-        dispatch::open(d, dryer, opening)
-    } else {
-        let answer = Answer { point: a, value: b };
-        dispatch::enter(d, dryer, answer)
-    }
-}
-
-// How many calls there are: as far as the three lists go, and as far as there is room for the rows.
-fn number_of_calls(kinds: &[u8], dryers: &[u32], numbers: &[i32], rows: &[u32]) -> usize
-    ensures { λ r. ⌜ r ≡ howMany (now (kinds .entry)) (now (dryers .entry)) (now (numbers .entry)) (now (rows .entry)) ⌝ }
-{
-    runs::lesser(
-        runs::lesser(rows.len() / NUMBERS_EACH, kinds.len()),
-        runs::lesser(dryers.len(), numbers.len() / CALL_NUMBERS),
-    )
-}
-
-// The call at a place of the lists, and its report in its place among the rows.
-fn call_at(
-    i: usize,
-    d: Dispatcher,
-    kinds: &[u8],
-    dryers: &[u32],
-    numbers: &[i32],
-    rows: &mut [u32],
-) -> Dispatcher
-    requires { ⌜ Before i (now kinds) (now dryers) (now numbers) (now rows) ⌝ }
-    ensures { λ r. ⌜ CallMade i d (now (kinds .entry)) (now (dryers .entry)) (now (numbers .entry)) (now (rows .entry)) r (now (rows .exit)) ⌝ }
-{
-    let at = CALL_NUMBERS * i;
-    let told = call(
-        kinds[i],
-        d,
-        dryers[i],
-        numbers[at],
-        numbers[at + 1],
-        numbers[at + 2],
-        numbers[at + 3],
-    );
-    let report = told.report;
-    calls::put_row(rows, NUMBERS_EACH * i, rows::row_of(report));
-    told.dispatcher
-}
+// The numbers that a report is written as: those of a row.
+pub const NUMBERS_EACH: usize = dispatch_calls::NUMBERS_EACH;
 
 // As many calls as the shortest of kinds, dryers and numbers allows, four numbers to each call: an opening's method, first end, second end and
 // tolerance, or an answer's point and value and two that are not read. Each gets the dispatcher as the one before left it. The numbers of each
@@ -81,11 +19,11 @@ pub fn make_calls(
 ) -> Dispatcher
     ensures { λ r. ⌜ DispatcherRuns d (now (kinds .entry)) (now (dryers .entry)) (now (numbers .entry)) (now (rows .entry)) r (now (rows .exit)) ⌝ }
 {
-    let n = number_of_calls(kinds, dryers, numbers, rows);
+    let n = dispatch_calls::number_of_calls(kinds, dryers, numbers, rows);
     let mut next = d;
     let mut i = 0;
     while i < n {
-        next = call_at(i, next, kinds, dryers, numbers, rows);
+        next = dispatch_calls::call_at(i, next, kinds, dryers, numbers, rows);
         i += 1;
     }
     next

@@ -8,8 +8,8 @@ use lib.ListN.{length}
 use borrow.Author.Needs.{needs}
 use Rattle.dispatching.specs.Dispatching.{dryers}
 use Rattle.dispatching.specs.DispatchingLaws.{length-mapped}
-use Rattle.dispatch_runs.specs.Listed.{howMany}
-use Rattle.dispatch_runs.specs.ListedLaws.{Made, made-none, one-before, made-more, made-all}
+use Rattle.dispatch_calls.specs.Listed.{howMany}
+use Rattle.dispatch_runs.specs.RunsLaws.{Made, made-none, one-before, made-more, made-all}
 use Rattle.dispatch_runs.proofs.make_calls.Statement.{statement}
 use Rattle.dispatch_runs.proofs.make_calls.Tie as tie
 

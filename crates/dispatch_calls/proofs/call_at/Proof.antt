@@ -1,4 +1,4 @@
--- `dispatch_runs::call_at` meets its contract: the call at the place is made, and the row of the report stored.
+-- `dispatch_calls::call_at` meets its contract: the call at the place is made, and the row of the report stored.
 -- Assumes nothing.
 use Prim.Native.Nat.{_*_, _+_}
 use mathlib.Core.Path.{_≡_, ap, _∙_}
@@ -12,10 +12,10 @@ use Rattle.rules.specs.declared.Row.{Row}
 use Rattle.rules.specs.Rows.{rowOf, rowNumbers, numbersEach}
 use Rattle.dispatching.specs.declared.Dispatched.{Dispatched}
 use Rattle.dispatching.specs.Calls.{callOf}
-use Rattle.dispatch_runs.specs.Listed.{callNumbers, callAt}
+use Rattle.dispatch_calls.specs.Listed.{callNumbers, callAt}
 use borrow.Author.Needs.{needs}
-use Rattle.dispatch_runs.proofs.call_at.Statement.{statement}
-use Rattle.dispatch_runs.proofs.call_at.Tie as tie
+use Rattle.dispatch_calls.proofs.call_at.Statement.{statement}
+use Rattle.dispatch_calls.proofs.call_at.Tie as tie
 
 abbrev start : tie.After-call → tie.Start
 start c = c .before .before .before .before .before .before .before .before .before .before

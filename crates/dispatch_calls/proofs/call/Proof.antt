@@ -1,12 +1,12 @@
--- `dispatch_runs::call` meets its contract: an opening or an answer, by its kind.
+-- `dispatch_calls::call` meets its contract: an opening or an answer, by its kind.
 -- Assumes nothing.
 use mathlib.Core.Path.{sym, ap, _∙_}
 use borrow.Author.Needs.{needs}
 use Rattle.integers.specs.Bounds.{read}
 use Rattle.dispatching.specs.Calls.{callOf}
-use Rattle.dispatch_runs.specs.ListedLaws.{call-opening, call-answer}
-use Rattle.dispatch_runs.proofs.call.Statement.{statement}
-use Rattle.dispatch_runs.proofs.call.Tie as tie
+use Rattle.dispatch_calls.specs.ListedLaws.{call-opening, call-answer}
+use Rattle.dispatch_calls.proofs.call.Statement.{statement}
+use Rattle.dispatch_calls.proofs.call.Tie as tie
 
 open-requires : tie.Need-open-requires
 open-requires c κs = search needs

@@ -1,17 +1,16 @@
--- A run of calls to a dispatcher written down in lists, and what `make_calls` promises of it, in the words of the claim about whole runs.
+-- Calls to a dispatcher written down in lists: the call at a place, and how many there are; and the contract of the step that makes one.
 -- Assumes nothing.
-use Prim.Native.Nat.{ℕ, zero, suc, _+_, _*_, _/_, _≤_, _<_, min}
+use Prim.Native.Nat.{ℕ, _+_, _*_, _/_, _≤_, _<_, min}
 use mathlib.Core.Path.{_≡_}
 use mathlib.Core.Bool.{cond}
-use mathlib.Core.List.{List, [], _∷_}
+use mathlib.Core.List.{List}
 use lib.Dec.{eqb}
 use lib.IntN.{ℤ, pos}
 use lib.ListN.{length, getD}
 use lib.Seq.{sets}
-use Rattle.rules.specs.Rows.{rowOf, rowNumbers, numbersEach, writtenOver}
+use Rattle.rules.specs.Rows.{rowOf, rowNumbers, numbersEach}
 use Rattle.dispatching.specs.declared.Dispatcher.{Dispatcher}
-use Rattle.dispatching.specs.Calls.{Call, opening, answer, callOf, dispatcherAfter, reportsOf}
-use Rattle.dispatching.specs.Run.{DispatcherRun}
+use Rattle.dispatching.specs.Calls.{Call, opening, answer, callOf}
 
 -- ---- the calls
 
@@ -32,27 +31,11 @@ callAt ks ds xs i =
     callWith (getD ks i 0) (getD ds i 0)
     (getD xs (callNumbers * i) (pos 0)) (getD xs (callNumbers * i + 1) (pos 0)) (getD xs (callNumbers * i + 2) (pos 0)) (getD xs (callNumbers * i + 3) (pos 0))
 
--- n calls, from place i on
-unfoldable pub callsFrom : List ℕ → List ℕ → List ℤ → ℕ → ℕ → List Call
-callsFrom ks ds xs i zero = []
-callsFrom ks ds xs i (suc n) = callAt ks ds xs i ∷ callsFrom ks ds xs (i + 1) n
-
 -- as far as all three lists go, and as the lent list has room for their reports, each written as the numbers of its row
 abbrev pub howMany : List ℕ → List ℕ → List ℤ → List ℕ → ℕ
 howMany ks ds xs list = min (min (length list / numbersEach) (length ks)) (min (length ds) (length xs / callNumbers))
 
-abbrev pub callsIn : List ℕ → List ℕ → List ℤ → List ℕ → List Call
-callsIn ks ds xs list = callsFrom ks ds xs 0 (howMany ks ds xs list)
-
--- ---- what is promised
-
--- r is what `make_calls` returns, and the lent list, which held `before`, holds `after`. All that is claimed of runs is true of this one
-pub record DispatcherRuns (d : Dispatcher) (ks ds : List ℕ) (xs : List ℤ) (before : List ℕ) (r : Dispatcher) (after : List ℕ) : Type 0 where
-  pub left : r ≡ dispatcherAfter d (callsIn ks ds xs before)
-  pub written : after ≡ writtenOver (reportsOf d (callsIn ks ds xs before)) before
-  pub run : DispatcherRun d (callsIn ks ds xs before)
-
--- ---- the inner steps
+-- ---- one of them made
 
 -- there is a call at a place, and room for its report
 pub record Before (i : ℕ) (ks ds : List ℕ) (xs : List ℤ) (list : List ℕ) : Type 0 where

@@ -5,26 +5,18 @@ use Prim.Native.Nat.{ℕ, zero, suc, _+_, _≤_, _<_}
 use mathlib.Core.Path.{_≡_, refl, ap}
 use mathlib.Core.List.{List, _∷_}
 use native.Mathlib.Omega.{arith}
-use borrow.Author.Tests.{eq-eqb, ne-eqb}
 use lib.IntN.{ℤ}
 use lib.ListN.{length, drop}
 use Rattle.rules.specs.RowsLaws.{InTurn}
 use Rattle.rules.specs.RowsLaws as Rows
 use Rattle.dispatching.specs.declared.Dispatcher.{Dispatcher}
 use Rattle.dispatching.specs.Dispatching.{dryers}
-use Rattle.dispatching.specs.Calls.{Call, opening, answer, callOf, dispatcherAfter, reportsOf}
+use Rattle.dispatching.specs.Calls.{Call, callOf, dispatcherAfter, reportsOf}
 use Rattle.dispatching.specs.RunHolds.{run}
-use Rattle.dispatch_runs.specs.Listed.{callWith, callAt, callsFrom, howMany, callsIn, DispatcherRuns, Before, CallMade}
+use Rattle.dispatch_calls.specs.Listed.{callAt, howMany, Before, CallMade}
+use Rattle.dispatch_runs.specs.Runs.{callsFrom, callsIn, DispatcherRuns}
 
 -- ---- the calls one by one
-
--- a call by its kind
-module _ (k i : ℕ) (a b c e : ℤ) where
-  pub call-opening : k ≡ 0 → callWith k i a b c e ≡ opening i (record { method = a; first = b; second = c; tolerance = e })
-  call-opening h = simp (eq-eqb k 0 h)
-
-  pub call-answer : (k ≡ 0 → ⊥) → callWith k i a b c e ≡ answer i (record { point = a; value = b })
-  call-answer h = simp (ne-eqb k 0 h)
 
 module _ (ks ds : List ℕ) (xs : List ℤ) where
   calls-number : (i n : ℕ) → length (callsFrom ks ds xs i n) ≡ n

@@ -1,0 +1,3 @@
+-- The modules of `specs/`.
+pub mod Listed
+pub mod ListedLaws
