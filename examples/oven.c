@@ -1,7 +1,7 @@
 /*
  * Six dryers and one oven. Each dryer's search is opened on the one dispatcher; then the oven's turn is asked for, the crew that has it brings a
  * trial, and what is refused is said in words, until all six have stopped. At the end it says each dryer's two settings, and how many runs of
- * the oven were served.
+ * the oven were served, for each dryer and in all.
  *
  * The crews are made up here. They make four mistakes: an opening for a dryer that is not there, one for a search that is on its way, leaf
  * brought out of turn, and a value without its decimal point.
@@ -96,6 +96,16 @@ static int print_settings(const struct busdekker_dispatcher *dispatcher, uint32_
     return 1;
 }
 
+/* Says how many runs of the oven were served for each dryer, whose crew pays for them, and in all. */
+static void print_oven_runs(const struct busdekker_dispatcher *dispatcher) {
+    uint64_t sum = 0;
+    for (uint32_t dryer = 0; dryer < BUSDEKKER_DRYERS; dryer++) {
+        printf("oven runs served for dryer %" PRIu32 ": %" PRIu32 "\n", dryer, dispatcher->counts[dryer]);
+        sum += dispatcher->counts[dryer];
+    }
+    printf("oven runs served: %" PRIu64 "\n", sum);
+}
+
 int main(void) {
     if (busdekker_version() != BUSDEKKER_VERSION) {
         fprintf(stderr, "oven: header and archive are of different versions\n");
@@ -112,6 +122,6 @@ int main(void) {
             return 1;
         }
     }
-    printf("oven runs served: %" PRIu32 "\n", dispatcher.count);
+    print_oven_runs(&dispatcher);
     return 0;
 }

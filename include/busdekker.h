@@ -35,8 +35,8 @@ extern "C" {
 
 /* The version of this interface. An archive of the same version answers the same number to busdekker_version(). Since version 2
  * busdekker_sheet takes fields between double quotes and a last record without CR LF. Since version 3 there is busdekker_write. Since version 4
- * there is the dispatcher. */
-#define BUSDEKKER_VERSION 4
+ * there is the dispatcher. Since version 5 it has a count for each dryer, in place of one for all, and 20 bytes more. */
+#define BUSDEKKER_VERSION 5
 
 /* The answers that a search keeps. */
 #define BUSDEKKER_SLOTS 72
@@ -53,7 +53,7 @@ extern "C" {
 /* No dryer: what busdekker_dispatch_turn answers where none has the turn, and a dispatcher's mark where none was served. */
 #define BUSDEKKER_NOBODY 6
 
-/* From here on the count of served answers remains as it is. */
+/* From here on a dryer's count of served answers remains as it is. Each of the six has this ceiling by itself. */
 #define BUSDEKKER_SERVED_CEILING 1000000000
 
 /* The bytes of stack that a call needs: one on a dispatcher, which copies it, and any other. Measured by tests/stack.c, which runs each call on
@@ -127,19 +127,24 @@ struct busdekker_search {
 };
 
 /*
- * A dispatcher that the host holds, for six dryers with one oven: the search of each dryer, the dryer that was last served, and the number of
- * served answers. A dryer without a search holds the blank one, every number 0, whose report is a refusal (3). A mark `last` that is not 0 to 5
- * reads as none served. Only busdekker_dispatch_open and busdekker_dispatch_enter should write it, its searches too; those may be lent to what
- * reads a search, as &dispatcher.searches[2] to busdekker_write.
+ * A dispatcher that the host holds, for six dryers with one oven: the search of each dryer, the dryer that was last served, and for each dryer
+ * the number of answers served there. A dryer without a search holds the blank one, every number 0, whose report is a refusal (3). A mark
+ * `last` that is not 0 to 5 reads as none served. Only busdekker_dispatch_open and busdekker_dispatch_enter should write it, its searches too;
+ * those may be lent to what reads a search, as &dispatcher.searches[2] to busdekker_write.
  *
  * The oven's turn goes to the next dryer whose search is accepted and unfinished, which is to say that its report is BUSDEKKER_NEXT: counting
  * round from the one after the last served, or from dryer 0 where none was. An accepted answer serves the turn; a refused one leaves it. While
  * nothing else writes the dispatcher, such a dryer waits for at most five served answers before its own turn.
+ *
+ * counts[k] counts the answers served at dryer k, through all its searches: each adds 1 while it is below BUSDEKKER_SERVED_CEILING. At the
+ * ceiling it remains as it is, and so does one above it, which a host may hold. No other call moves it: no opening, its own dryer's included, no
+ * answer of another dryer, and nothing that is refused. The sum of the six may need 64 bits. From a fresh dispatcher, while nothing else writes
+ * it, the one count of version 4 would show that sum, or the ceiling where the sum is above it.
  */
 struct busdekker_dispatcher {
     struct busdekker_search searches[BUSDEKKER_DRYERS];
     uint32_t last;
-    uint32_t count;
+    uint32_t counts[BUSDEKKER_DRYERS];
 };
 
 /*
@@ -250,7 +255,7 @@ struct busdekker_report busdekker_sheet(const uint8_t *text, size_t length);
  */
 struct busdekker_written busdekker_write(const struct busdekker_search *search, uint8_t *buffer, size_t size);
 
-/* A fresh dispatcher: no dryer has a search, `last` is BUSDEKKER_NOBODY, and the count is 0. */
+/* A fresh dispatcher: no dryer has a search, `last` is BUSDEKKER_NOBODY, and all six counts are 0. */
 struct busdekker_dispatcher busdekker_dispatch_fresh(void);
 
 /* The dryer that has the oven's turn, 0 to 5, or BUSDEKKER_NOBODY where no search is accepted and unfinished. *dispatcher is read and not
@@ -258,8 +263,8 @@ struct busdekker_dispatcher busdekker_dispatch_fresh(void);
 uint32_t busdekker_dispatch_turn(const struct busdekker_dispatcher *dispatcher);
 
 /*
- * Makes the dryer's search a fresh search of the opening, as busdekker_open does. The other searches, the mark and the count stay. The report
- * calls for the first end.
+ * Makes the dryer's search a fresh search of the opening, as busdekker_open does. The other searches, the mark and all six counts stay: an
+ * opening does not clear the dryer's own. The report calls for the first end.
  * A refusal (14, then 16, then 1 to 4) leaves *dispatcher as it was: a search on its way cannot be lost by an opening, and one that has stopped
  * stays until an accepted opening takes its place.
  */
@@ -267,10 +272,10 @@ struct busdekker_report busdekker_dispatch_open(struct busdekker_dispatcher *dis
 
 /*
  * Offers an answer to the search of the dryer that has the turn, as busdekker_enter does. An accepted one is served: it enters that search, the
- * mark becomes the dryer, and the count grows by 1 if it is below BUSDEKKER_SERVED_CEILING. The other searches stay. The report is that of the
- * dryer's search after it; the turn then is another's, unless no other search is accepted and unfinished.
- * A refusal (14, then 15, then 6 to 8) leaves *dispatcher as it was, and the turn with it: after 6, 7 or 8 the trial may be repeated or its
- * value corrected, and offered again. Place is the count of the dryer's search for 6 to 8.
+ * mark becomes the dryer, and counts[dryer] grows by 1 if it is below BUSDEKKER_SERVED_CEILING. The other searches and the five other counts
+ * stay. The report is that of the dryer's search after it; the turn then is another's, unless no other search is accepted and unfinished.
+ * A refusal (14, then 15, then 6 to 8) leaves *dispatcher as it was, all six counts too, and the turn with it: after 6, 7 or 8 the trial may be
+ * repeated or its value corrected, and offered again. For 6 to 8 place is the number of answers that the dryer's search has taken.
  */
 struct busdekker_report busdekker_dispatch_enter(struct busdekker_dispatcher *dispatcher, uint32_t dryer, struct busdekker_answer answer);
 
@@ -288,9 +293,9 @@ BUSDEKKER_ASSERT(offsetof(struct busdekker_search, count) == 16, "count stands a
 BUSDEKKER_ASSERT(offsetof(struct busdekker_search, slots) == 20, "slots stand at 20");
 BUSDEKKER_ASSERT(sizeof(struct busdekker_answer) == 8, "an answer has 8 bytes");
 BUSDEKKER_ASSERT(offsetof(struct busdekker_answer, value) == 4, "value stands at 4");
-BUSDEKKER_ASSERT(sizeof(struct busdekker_dispatcher) == 1856, "a dispatcher has 1,856 bytes");
+BUSDEKKER_ASSERT(sizeof(struct busdekker_dispatcher) == 1876, "a dispatcher has 1,876 bytes");
 BUSDEKKER_ASSERT(offsetof(struct busdekker_dispatcher, last) == 1848, "last stands at 1,848");
-BUSDEKKER_ASSERT(offsetof(struct busdekker_dispatcher, count) == 1852, "count stands at 1,852");
+BUSDEKKER_ASSERT(offsetof(struct busdekker_dispatcher, counts) == 1852, "counts stand at 1,852");
 BUSDEKKER_ASSERT(sizeof(struct busdekker_report) == 32, "a report has 32 bytes");
 BUSDEKKER_ASSERT(offsetof(struct busdekker_report, point) == 4, "point stands at 4");
 BUSDEKKER_ASSERT(offsetof(struct busdekker_report, lower) == 8, "lower stands at 8");

@@ -8,17 +8,21 @@
 static bool dispatches(busdekker_opening opening, busdekker_opening refused) {
     const busdekker_answer answer = {0, -1};
     busdekker_dispatcher dispatcher = busdekker_dispatch_fresh();
-    bool same = busdekker_dispatch_turn(&dispatcher) == BUSDEKKER_NOBODY && dispatcher.last == BUSDEKKER_NOBODY && dispatcher.count == 0;
+    const uint32_t none_served[BUSDEKKER_DRYERS] = {0, 0, 0, 0, 0, 0};
+    const uint32_t served[BUSDEKKER_DRYERS] = {0, 1, 0, 0, 0, 0};
+    bool same = busdekker_dispatch_turn(&dispatcher) == BUSDEKKER_NOBODY && dispatcher.last == BUSDEKKER_NOBODY;
+    same = same && std::memcmp(dispatcher.counts, none_served, sizeof none_served) == 0;
     same = same && busdekker_dispatch_ask(&dispatcher, 5).number == BUSDEKKER_ENDS_EQUAL;
     same = same && busdekker_dispatch_open(&dispatcher, 4, opening).kind == BUSDEKKER_NEXT;
     same = same && busdekker_dispatch_open(&dispatcher, 4, refused).number == BUSDEKKER_STILL_SEARCHING;
     same = same && busdekker_dispatch_open(&dispatcher, 1, refused).number == BUSDEKKER_ENDS_EQUAL;
     same = same && busdekker_dispatch_open(&dispatcher, 1, opening).kind == BUSDEKKER_NEXT;
     same = same && busdekker_dispatch_open(&dispatcher, BUSDEKKER_DRYERS, opening).number == BUSDEKKER_NO_SUCH_DRYER;
-    same = same && busdekker_dispatch_turn(&dispatcher) == 1;
+    same = same && busdekker_dispatch_turn(&dispatcher) == 1 && std::memcmp(dispatcher.counts, none_served, sizeof none_served) == 0;
     same = same && busdekker_dispatch_enter(&dispatcher, 4, answer).number == BUSDEKKER_NOT_ITS_TURN;
     same = same && busdekker_dispatch_enter(&dispatcher, 1, answer).point == 2;
-    same = same && busdekker_dispatch_turn(&dispatcher) == 4 && dispatcher.last == 1 && dispatcher.count == 1;
+    same = same && busdekker_dispatch_turn(&dispatcher) == 4 && dispatcher.last == 1;
+    same = same && std::memcmp(dispatcher.counts, served, sizeof served) == 0;
     same = same && busdekker_dispatch_ask(&dispatcher, 1).taken == 1 && busdekker_ask(&dispatcher.searches[1]).taken == 1;
     return same;
 }

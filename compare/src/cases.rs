@@ -3,7 +3,8 @@
 
 use crate::model::{self, Book};
 use crate::rng::Rng;
-use crate::types::{Dispatcher, Opening, Search, SLOTS};
+use crate::types::{Dispatcher, Opening, Search, DRYERS, SLOTS};
+use std::array;
 
 /// An opening with nothing wrong in it, of every width and every tolerance.
 pub fn accepted_opening(rng: &mut Rng) -> Opening {
@@ -266,7 +267,7 @@ fn search_on_its_way(rng: &mut Rng) -> Search {
 }
 
 /// A dispatcher of any kind: each dryer has a search that is on its way, one of any kind or none;
-/// the mark and the count are mostly at or around their limits.
+/// the mark and the counts are mostly at or around their limits.
 pub fn any_dispatcher(rng: &mut Rng) -> Dispatcher {
     let mut dispatcher = Dispatcher::fresh();
     for search in &mut dispatcher.searches {
@@ -280,13 +281,42 @@ pub fn any_dispatcher(rng: &mut Rng) -> Dispatcher {
         0 => rng.any() as u32,
         _ => rng.pick(&[0, 1, 2, 3, 4, 5, 6, 7, u32::MAX]),
     };
-    dispatcher.count = match rng.below(8) {
-        0 => rng.any() as u32,
-        1 => 0,
-        2 => u32::MAX,
-        _ => rng.between(999_999_995, 1_000_000_001) as u32,
-    };
+    dispatcher.counts = any_counts(rng);
     dispatcher
+}
+
+/// The six counts of a dispatcher: mostly at or around the ceiling, each of them alone, one beside
+/// five small ones, or all in sum; sometimes 0, and sometimes anything.
+fn any_counts(rng: &mut Rng) -> [u32; DRYERS] {
+    match rng.below(8) {
+        0 => [0; DRYERS],
+        1 => array::from_fn(|_| rng.any() as u32),
+        2 | 3 => array::from_fn(|_| around_ceiling(rng)),
+        4 => {
+            let mut counts = array::from_fn(|_| rng.below(3) as u32);
+            counts[rng.below(DRYERS)] = around_ceiling(rng);
+            counts
+        }
+        _ => around_ceiling_in_sum(rng),
+    }
+}
+
+/// A count that mostly is close to the ceiling.
+fn around_ceiling(rng: &mut Rng) -> u32 {
+    match rng.below(8) {
+        0 => 0,
+        1 => u32::MAX,
+        _ => rng.between(999_999_997, 1_000_000_001) as u32,
+    }
+}
+
+/// Six counts far below the ceiling, whose sum is close to it.
+fn around_ceiling_in_sum(rng: &mut Rng) -> [u32; DRYERS] {
+    let mut counts = array::from_fn(|_| rng.between(100_000_000, 190_000_000) as u32);
+    let others: u32 = counts[1..].iter().sum();
+    counts[0] = rng.between(999_999_990, 1_000_000_001) as u32 - others;
+    counts.rotate_right(rng.below(DRYERS));
+    counts
 }
 
 /// A point that is mostly not the one called for.

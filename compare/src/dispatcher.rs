@@ -1,11 +1,11 @@
-//! The model of the dispatcher, from request 2026-04 and the model of single searches, and from
-//! nothing else. Slow and plain like it: whose turn it is, is found anew in every call, from a list
-//! of all the dryers in the order in which they are asked.
+//! The model of the dispatcher, from requests 2026-04 and 2026-05 and the model of single searches,
+//! and from nothing else. Slow and plain like it: whose turn it is, is found anew in every call, from
+//! a list of all the dryers in the order in which they are asked.
 
 use crate::model;
 use crate::types::{Answer, Dispatcher, Opening, Report, Search, NOBODY};
 
-/// The count of served answers remains as it is once this is reached or passed.
+/// A dryer's count of served answers remains as it is once this is reached or passed.
 const CEILING: u32 = 1_000_000_000;
 
 /// Accepted and unfinished: a point is called for.
@@ -34,7 +34,8 @@ fn no_dryer(dryer: u32) -> bool {
     !(0..=5).contains(&dryer)
 }
 
-/// A fresh search at a dryer. If something is refused, the dispatcher stays as it is.
+/// A fresh search at a dryer, whose count is not cleared. If something is refused, the dispatcher
+/// stays as it is.
 pub fn open(dispatcher: &mut Dispatcher, dryer: u32, opening: &Opening) -> Report {
     if no_dryer(dryer) {
         return Report::refuse(14, 0);
@@ -46,7 +47,8 @@ pub fn open(dispatcher: &mut Dispatcher, dryer: u32, opening: &Opening) -> Repor
     model::open(search, opening)
 }
 
-/// An answer for a dryer. If something is refused, the dispatcher stays as it is.
+/// An answer for a dryer, which is counted there. If something is refused, the dispatcher stays as it
+/// is.
 pub fn enter(dispatcher: &mut Dispatcher, dryer: u32, answer: Answer) -> Report {
     if no_dryer(dryer) {
         return Report::refuse(14, 0);
@@ -58,12 +60,13 @@ pub fn enter(dispatcher: &mut Dispatcher, dryer: u32, answer: Answer) -> Report 
     let report = model::enter(search, answer.point, answer.value);
     if report.kind != Report::REFUSED {
         dispatcher.last = dryer;
-        dispatcher.count = counted(dispatcher.count);
+        let count = &mut dispatcher.counts[dryer as usize];
+        *count = counted(*count);
     }
     report
 }
 
-/// The count after one more served answer.
+/// A dryer's count after one more answer served there.
 fn counted(count: u32) -> u32 {
     if count >= CEILING {
         count

@@ -1,6 +1,6 @@
 //! Six dryers and one oven: the comparison's part on the dispatcher. Lists of calls by crews that
 //! behave and by ones that do not, each call getting the dispatcher as the one before left it; and
-//! with every list what request 2026-04 claims of it.
+//! with every list what requests 2026-04 and 2026-05 claim of it.
 
 use crate::cases::{self, Oven};
 use crate::checks::{agree, search_as_sheet, Checked, Tally};
@@ -21,7 +21,7 @@ const CALLS_FROM_HELD: usize = 25;
 /// A dryer never waits for more served answers than this.
 const LONGEST_WAIT: u32 = 5;
 
-/// The count of served answers grows up to this.
+/// The count of a dryer grows up to this, and so did the old one of all served answers.
 const CEILING: u64 = 1_000_000_000;
 
 /// A call on a dispatcher, with its dryer.
@@ -32,13 +32,13 @@ enum Call {
 }
 
 /// What the calls were told; after each of them, what the dryers were and whose the turn was; the
-/// longest wait; and how many served answers the count did not count.
+/// longest wait; and how often served answers met the ceiling.
 struct Told<'a> {
     calls: &'a mut Tally,
     asked: Tally,
     turns: [u64; DRYERS + 1],
     longest_wait: u32,
-    uncounted: u64,
+    borders: Borders,
 }
 
 impl Told<'_> {
@@ -46,11 +46,48 @@ impl Told<'_> {
         println!("dryers asked after each call: {}", self.asked);
         let (nobody, turns) = self.turns.split_last().expect("it is the seventh");
         println!("the turn after each call: nobody's {nobody}, the dryers' {turns:?}");
-        let (longest, uncounted) = (self.longest_wait, self.uncounted);
+        let longest = self.longest_wait;
         println!(
             "longest wait for the turn: {longest} served answers, the bound is {LONGEST_WAIT}"
         );
-        println!("served answers with the count at its ceiling or above: {uncounted}");
+        self.borders.show();
+    }
+}
+
+/// How many served answers met the ceiling.
+#[derive(Default)]
+struct Borders {
+    /// Their dryer's count came to it; or it was there already or above, and stayed.
+    reached: u64,
+    stayed: u64,
+    /// The sum of the six came to it; or it went past, with each of the six still below.
+    sum_reached: u64,
+    sum_passed: u64,
+}
+
+impl Borders {
+    /// One more answer served at this dryer, and the counts before it.
+    fn count(&mut self, dryer: usize, counts: &[u64; DRYERS]) {
+        let sum: u64 = counts.iter().sum();
+        let all_below = counts.iter().all(|&count| count < CEILING);
+        self.reached += u64::from(counts[dryer] + 1 == CEILING);
+        self.stayed += u64::from(counts[dryer] >= CEILING);
+        self.sum_reached += u64::from(sum + 1 == CEILING);
+        self.sum_passed += u64::from(sum == CEILING && all_below);
+    }
+
+    fn all_met(&self) -> bool {
+        let times = [self.reached, self.stayed, self.sum_reached, self.sum_passed];
+        !times.contains(&0)
+    }
+
+    fn show(&self) {
+        let (reached, stayed) = (self.reached, self.stayed);
+        println!("served answers that took their dryer's count to its ceiling: {reached}");
+        println!("served answers with their dryer's count at its ceiling or above: {stayed}");
+        let (reached, passed) = (self.sum_reached, self.sum_passed);
+        println!("served answers that took the sum of the six to the ceiling: {reached}");
+        println!("served answers that took the sum past it, each of the six below: {passed}");
     }
 }
 
@@ -61,7 +98,7 @@ pub fn dispatchers(rng: &mut Rng, tally: &mut Tally) -> Checked {
         asked: Tally::default(),
         turns: [0; DRYERS + 1],
         longest_wait: 0,
-        uncounted: 0,
+        borders: Borders::default(),
     };
     agree(Dispatcher::fresh(), ffi::dispatch_fresh(), || {
         "a fresh dispatcher".into()
@@ -73,7 +110,9 @@ pub fn dispatchers(rng: &mut Rng, tally: &mut Tally) -> Checked {
         list_agrees(cases::any_dispatcher(rng), CALLS_FROM_HELD, rng, &mut told)?;
     }
     told.show();
-    Ok(())
+    agree(true, told.borders.all_met(), || {
+        "the ceiling, met by a dryer's count and by the sum of the six".into()
+    })
 }
 
 /// One list of about so many calls. In every second one a call in three is a mistake.
@@ -126,9 +165,12 @@ struct Morning {
     alone: [Search; DRYERS],
     /// The served answers that each dryer has waited for, since its opening or its own last one.
     waited: [u32; DRYERS],
-    /// The count at the beginning, and the served answers since.
-    counted: u32,
-    served: u64,
+    /// The counts at the beginning, and the answers served at each dryer since.
+    counts: [u32; DRYERS],
+    served: [u64; DRYERS],
+    /// Request 2026-04's one count of all served answers. The dispatcher has it no more: it is kept
+    /// here, from the sum of the counts or the ceiling, whichever is less; from 0 if all are 0.
+    old_count: u64,
 }
 
 impl Morning {
@@ -148,8 +190,9 @@ impl Morning {
             crews: array::from_fn(&mut crew),
             alone: start.searches,
             waited: [0; DRYERS],
-            counted: start.count,
-            served: 0,
+            counts: start.counts,
+            served: [0; DRYERS],
+            old_count: CEILING.min(sum(&start.counts)),
         }
     }
 
@@ -199,8 +242,8 @@ impl Morning {
 
     /// One call: its report, all that the dispatcher holds after it, and what is told of that.
     fn call_agrees(&mut self, call: Call, rng: &mut Rng, told: &mut Told) -> Checked {
-        let before = self.library;
-        let input = || dispatcher_and_call(&before, call);
+        let (before, old_count) = (self.library, self.old_count);
+        let input = || dispatcher_and_call(&before, old_count, call);
         let (model, library) = (&mut self.model, &mut self.library);
         let reports = match call {
             Call::Open(dryer, opening) => (
@@ -219,6 +262,7 @@ impl Morning {
             agree(before, self.library, input)?;
         } else {
             agree(reports.1, self.accepted(call, rng, told), input)?;
+            self.others_stay(&before.counts, call, input)?;
         }
         self.told_agrees(told, input)?;
         self.claims_hold(input)
@@ -239,13 +283,39 @@ impl Morning {
                     crew.book.offer(point, value);
                 }
                 told.longest_wait = told.longest_wait.max(self.waited[dryer]);
-                told.uncounted += u64::from(u64::from(self.counted) + self.served >= CEILING);
+                told.borders.count(dryer, &self.counted());
                 self.waited = self.waited.map(|waited| waited + 1);
                 self.waited[dryer] = 0;
-                self.served += 1;
+                self.served[dryer] += 1;
+                self.old_count += u64::from(self.old_count < CEILING);
                 ffi::enter(&mut self.alone[dryer], point, value)
             }
         }
+    }
+
+    /// The count of each dryer, from the one at the beginning and the answers served there since.
+    fn counted(&self) -> [u64; DRYERS] {
+        array::from_fn(|dryer| {
+            let start = u64::from(self.counts[dryer]);
+            start.max(CEILING.min(start + self.served[dryer]))
+        })
+    }
+
+    /// An accepted call moves no count but that of the dryer that it answers for: an answer none of
+    /// the five others, and an opening none of the six.
+    fn others_stay(
+        &self,
+        before: &[u32; DRYERS],
+        call: Call,
+        input: impl Fn() -> String,
+    ) -> Checked {
+        let mut expected = *before;
+        if let Call::Enter(dryer, _) = call {
+            expected[dryer as usize] = self.library.counts[dryer as usize];
+        }
+        agree(expected, self.library.counts, || {
+            input() + "\nthe counts that the call has nothing to do with"
+        })
     }
 
     /// The turn and the reports of dryers 0 to 6 are the model's, and to ask for them changes
@@ -270,13 +340,23 @@ impl Morning {
         agree(self.model, *black_box(&self.library), input)
     }
 
-    /// The request's claims: each search is the one that its dryer has by itself, the count is that
-    /// of the served answers, and nobody waits for too many of them.
+    /// Each count is that of the answers served at its dryer, and the old count is the sum of the
+    /// six, up to the ceiling.
+    fn counts_hold(&self, input: impl Fn() -> String) -> Checked {
+        let counts = self.library.counts;
+        agree(self.counted(), counts.map(u64::from), || {
+            input() + "\nthe counts, from the answers served at each dryer"
+        })?;
+        agree(self.old_count, CEILING.min(sum(&counts)), || {
+            input() + "\nthe old count, from the sum of the six"
+        })
+    }
+
+    /// The requests' claims: each search is the one that its dryer has by itself, the counts are
+    /// those of the served answers, and nobody waits for too many of them.
     fn claims_hold(&self, input: impl Fn() -> String) -> Checked {
         agree(self.alone, self.library.searches, &input)?;
-        let counted = u64::from(self.counted);
-        let count = counted.max(CEILING.min(counted + self.served));
-        agree(count, u64::from(self.library.count), &input)?;
+        self.counts_hold(&input)?;
         for (dryer, &waited) in self.waited.iter().enumerate() {
             let late = waited >= LONGEST_WAIT && self.turn != dryer as u32;
             if self.unfinished(dryer) && late {
@@ -290,12 +370,19 @@ impl Morning {
     }
 }
 
-/// The searches of a dispatcher, each as a sheet and whole, its mark and its count; and the call.
-fn dispatcher_and_call(dispatcher: &Dispatcher, call: Call) -> String {
+/// The six counts of a dispatcher, added up.
+fn sum(counts: &[u32; DRYERS]) -> u64 {
+    counts.iter().copied().map(u64::from).sum()
+}
+
+/// The searches of a dispatcher, each as a sheet and whole, its mark and its counts, beside them the
+/// old count; and the call.
+fn dispatcher_and_call(dispatcher: &Dispatcher, old_count: u64, call: Call) -> String {
     let mut text = String::new();
     for (dryer, search) in dispatcher.searches.iter().enumerate() {
         text += &format!("dryer {dryer}:\n{}\n", search_as_sheet(search));
     }
-    let Dispatcher { last, count, .. } = dispatcher;
-    format!("{text}last served {last}, count {count}\ncall: {call:?}")
+    let Dispatcher { last, counts, .. } = dispatcher;
+    text += &format!("last served {last}, counts {counts:?}, the old count {old_count}\n");
+    format!("{text}call: {call:?}")
 }

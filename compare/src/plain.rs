@@ -570,8 +570,9 @@ pub fn dispatch_enter(dispatcher: &mut Dispatcher, dryer: u32, answer: Answer) -
     let report = offer(search, walk, answer.point, answer.value);
     if report.kind != Report::REFUSED {
         dispatcher.last = dryer;
-        if dispatcher.count < SERVED_CEILING {
-            dispatcher.count += 1;
+        let count = &mut dispatcher.counts[dryer as usize];
+        if *count < SERVED_CEILING {
+            *count += 1;
         }
     }
     report

@@ -71,23 +71,23 @@ impl Answer {
     }
 }
 
-/// A dispatcher, as the host keeps it: the search of each dryer, the dryer that was last served and
-/// the number of served answers.
+/// A dispatcher, as the host keeps it: the search of each dryer, the dryer that was last served, and
+/// for each dryer the number of answers served there.
 #[repr(C)]
 #[derive(Clone, Copy, Debug, PartialEq, Eq)]
 pub struct Dispatcher {
     pub searches: [Search; DRYERS],
     pub last: u32,
-    pub count: u32,
+    pub counts: [u32; DRYERS],
 }
 
 impl Dispatcher {
-    /// No search, which is six of nothing but 0; nobody served; and a count of 0.
+    /// No search, which is six of nothing but 0; nobody served; and six counts of 0.
     pub const fn fresh() -> Self {
         Dispatcher {
             searches: [Search::fresh(Opening::new(0, 0, 0, 0)); DRYERS],
             last: NOBODY,
-            count: 0,
+            counts: [0; DRYERS],
         }
     }
 }
@@ -262,9 +262,9 @@ const _: () = {
     assert!(offset_of!(Search, slots) == 20);
     assert!(size_of::<Answer>() == 8);
     assert!(offset_of!(Answer, value) == 4);
-    assert!(size_of::<Dispatcher>() == 1_856);
+    assert!(size_of::<Dispatcher>() == 1_876);
     assert!(offset_of!(Dispatcher, last) == 1_848);
-    assert!(offset_of!(Dispatcher, count) == 1_852);
+    assert!(offset_of!(Dispatcher, counts) == 1_852);
     assert!(size_of::<Report>() == 32);
     assert!(offset_of!(Report, point) == 4);
     assert!(offset_of!(Report, lower) == 8);

@@ -14,6 +14,26 @@ const REFUSED: Opening = Opening::new(1, 5, 5, 1);
 /// The first answer of M and of R, and of the short one.
 const FIRST: Answer = Answer::new(0, -50);
 
+/// The second and last answer of the short one.
+const LAST: Answer = Answer::new(2, 1);
+
+/// The count of a dryer grows up to this, and so did request 2026-04's one count.
+const CEILING: u64 = 1_000_000_000;
+
+/// Six counts added up.
+fn sum(counts: &[u32; DRYERS]) -> u64 {
+    counts.iter().copied().map(u64::from).sum()
+}
+
+/// Request 2026-04's one count after one more served answer.
+fn old_count_after(old_count: u64) -> u64 {
+    if old_count < CEILING {
+        old_count + 1
+    } else {
+        old_count
+    }
+}
+
 /// The calls on a dispatcher.
 #[derive(Clone, Copy)]
 struct Calls {
@@ -85,16 +105,27 @@ impl Calls {
             assert_eq!(dispatcher.last, dryer);
         }
     }
+
+    /// A short search opened at a dryer and answered to its stop. The dryer has no search on its
+    /// way, and no other has.
+    fn runs_short(&self, dispatcher: &mut Dispatcher, dryer: u32) {
+        let report = (self.open)(dispatcher, dryer, &SHORT);
+        assert_eq!(report, Report::next(0, 0));
+        let report = (self.enter)(dispatcher, dryer, FIRST);
+        assert_eq!(report, Report::next(2, 1));
+        let report = (self.enter)(dispatcher, dryer, LAST);
+        assert_eq!(report, Report::stop(0, 2, 2, 2));
+    }
 }
 
-/// No search, nobody served, a count of 0: every dryer is refused as a search of nothing but 0.
+/// No search, nobody served, counts of 0: every dryer is refused as a search of nothing but 0.
 #[test]
 fn fresh() {
     for calls in ALL {
         let mut dispatcher = (calls.fresh)();
         let blank = Search::fresh(Opening::new(0, 0, 0, 0));
         assert_eq!(dispatcher.searches, [blank; DRYERS]);
-        assert_eq!((dispatcher.last, dispatcher.count), (6, 0));
+        assert_eq!((dispatcher.last, dispatcher.counts), (6, [0; DRYERS]));
         assert_eq!((calls.turn)(&dispatcher), NOBODY);
         for dryer in 0..6 {
             assert_eq!((calls.ask)(&dispatcher, dryer), Report::refuse(3, 0));
@@ -104,7 +135,7 @@ fn fresh() {
     }
 }
 
-/// An opening moves neither the mark nor the count, and touches no other dryer.
+/// An opening moves neither the mark nor a count, and touches no other dryer.
 #[test]
 fn openings() {
     for calls in ALL {
@@ -113,11 +144,11 @@ fn openings() {
         let mut expected = Dispatcher::fresh();
         expected.searches[4] = Search::fresh(M);
         assert_eq!(dispatcher, expected);
-        (dispatcher.last, dispatcher.count) = (2, 7);
+        (dispatcher.last, dispatcher.counts) = (2, [7, 0, 9, 8, 1, u32::MAX]);
         dispatcher.searches[3].count = 73;
         dispatcher.searches[3].slots[71] = 5;
         assert_eq!((calls.open)(&mut dispatcher, 3, &R), Report::next(0, 0));
-        (expected.last, expected.count) = (2, 7);
+        (expected.last, expected.counts) = (2, [7, 0, 9, 8, 1, u32::MAX]);
         expected.searches[3] = Search::fresh(R);
         assert_eq!(dispatcher, expected);
     }
@@ -139,7 +170,7 @@ fn three_dryers() {
         expected.searches[1] = Book::of(M, &[-50, 100]).search();
         expected.searches[2] = Book::of(M, &[-50]).search();
         expected.searches[4] = Book::of(M, &[-50]).search();
-        (expected.last, expected.count) = (1, 4);
+        (expected.last, expected.counts) = (1, [0, 2, 1, 0, 1, 0]);
         assert_eq!(dispatcher, expected);
     }
 }
@@ -207,7 +238,7 @@ fn still_searching() {
             assert_eq!(dispatcher.searches[dryer as usize], Search::fresh(R));
             calls.refuses_opening(&mut dispatcher, dryer, &R, 16);
         }
-        assert_eq!((dispatcher.last, dispatcher.count), (6, 0));
+        assert_eq!((dispatcher.last, dispatcher.counts), (6, [0; DRYERS]));
     }
 }
 
@@ -235,9 +266,11 @@ fn refused_answers_leave_the_turn() {
     }
 }
 
-/// The count grows up to the ceiling, and remains as it is there and above.
+/// The count of each dryer grows up to the ceiling, and remains as it is there and above; those of
+/// the five others stay, whatever they are.
 #[test]
-fn counts() {
+fn each_ceiling() {
+    let others = [3, 999_999_999, 0, 1_000_000_000, u32::MAX, 1_000_000_001];
     let after = [
         (0, 1),
         (999_999_998, 999_999_999),
@@ -248,12 +281,109 @@ fn counts() {
     ];
     for calls in ALL {
         for (before, after) in after {
-            let mut dispatcher = calls.with(&[0]);
-            dispatcher.count = before;
-            calls.refuses(&mut dispatcher, 1, FIRST, Report::refuse(15, 0));
-            calls.serves(&mut dispatcher, &[0]);
-            assert_eq!(dispatcher.count, after);
+            for dryer in 0..6 {
+                let mut dispatcher = calls.with(&[dryer]);
+                dispatcher.counts = others;
+                dispatcher.counts[dryer as usize] = before;
+                let another = (dryer + 1) % 6;
+                calls.refuses(&mut dispatcher, another, FIRST, Report::refuse(15, 0));
+                calls.serves(&mut dispatcher, &[dryer]);
+                let mut expected = others;
+                expected[dryer as usize] = after;
+                assert_eq!(dispatcher.counts, expected, "dryer {dryer}");
+            }
         }
+    }
+}
+
+/// A dryer is opened anew after each stop, and its count goes on; refused openings leave it too.
+#[test]
+fn openings_clear_nothing() {
+    for calls in ALL {
+        let mut dispatcher = (calls.fresh)();
+        calls.runs_short(&mut dispatcher, 4);
+        for count in [2, 4, 6] {
+            assert_eq!(dispatcher.counts, [0, 0, 0, 0, count, 0]);
+            calls.refuses_opening(&mut dispatcher, 4, &REFUSED, 3);
+            calls.runs_short(&mut dispatcher, 4);
+        }
+        assert_eq!((calls.open)(&mut dispatcher, 4, &M), Report::next(0, 0));
+        calls.refuses_opening(&mut dispatcher, 4, &M, 16);
+        assert_eq!(dispatcher.counts, [0, 0, 0, 0, 8, 0]);
+        calls.serves(&mut dispatcher, &[4]);
+        assert_eq!(dispatcher.counts, [0, 0, 0, 0, 9, 0]);
+    }
+}
+
+/// The answers of one crew, through many searches, never move the count of another, though the
+/// others have searches that have stopped.
+#[test]
+fn one_crew_alone() {
+    for calls in ALL {
+        let mut dispatcher = (calls.fresh)();
+        for dryer in 0..6 {
+            calls.runs_short(&mut dispatcher, dryer);
+        }
+        assert_eq!(dispatcher.counts, [2; DRYERS]);
+        for dryer in 0..6 {
+            let mut expected = dispatcher.counts;
+            for _ in 0..10 {
+                calls.runs_short(&mut dispatcher, dryer);
+                expected[dryer as usize] += 2;
+                assert_eq!(dispatcher.counts, expected, "dryer {dryer}");
+            }
+        }
+        assert_eq!(dispatcher.counts, [22; DRYERS]);
+    }
+}
+
+/// The sum of the six passes the ceiling, where the old count stays, while each count goes on.
+#[test]
+fn sum_past_the_ceiling() {
+    let start = [150_000_000, 0, 250_000_000, 299_999_998, 1, 299_999_999];
+    for calls in ALL {
+        let mut dispatcher = calls.with(&[0, 1, 2, 3, 4, 5]);
+        dispatcher.counts = start;
+        let mut expected = start;
+        let mut old_count = sum(&start);
+        assert_eq!(old_count, 999_999_998);
+        for dryer in 0..6 {
+            calls.serves(&mut dispatcher, &[dryer]);
+            expected[dryer as usize] += 1;
+            old_count = old_count_after(old_count);
+            assert_eq!(dispatcher.counts, expected);
+            assert_eq!(old_count, CEILING.min(sum(&dispatcher.counts)));
+        }
+        assert_eq!(sum(&dispatcher.counts), 1_000_000_004);
+        assert_eq!(old_count, 1_000_000_000);
+    }
+}
+
+/// From a fresh dispatcher the sum of the six is what the old count would have shown: here after
+/// every call of mornings in which crews open, answer, and bring leaf out of turn.
+#[test]
+fn sum_from_fresh() {
+    for calls in ALL {
+        let mut rng = Rng::new(5);
+        let mut dispatcher = (calls.fresh)();
+        let mut old_count = 0;
+        let mut served = [0; DRYERS];
+        for _ in 0..600 {
+            let turn = (calls.turn)(&dispatcher);
+            let any = rng.below(7) as u32;
+            let dryer = if rng.once_in(3) { any } else { turn };
+            let begun = (calls.ask)(&dispatcher, dryer).taken > 0;
+            let answer = if begun { LAST } else { FIRST };
+            if turn == NOBODY || rng.once_in(3) {
+                (calls.open)(&mut dispatcher, any, &SHORT);
+            } else if (calls.enter)(&mut dispatcher, dryer, answer).kind != Report::REFUSED {
+                old_count = old_count_after(old_count);
+                served[dryer as usize] += 1;
+            }
+            assert_eq!(sum(&dispatcher.counts), old_count);
+            assert_eq!(dispatcher.counts, served);
+        }
+        assert!(served.iter().all(|&served| served > 10), "{served:?}");
     }
 }
 
@@ -264,7 +394,7 @@ fn all_six() {
         let mut dispatcher = calls.with(&[5, 4, 3, 2, 1, 0]);
         calls.serves(&mut dispatcher, &[0, 1, 2, 3, 4, 5]);
         assert_eq!((calls.turn)(&dispatcher), 0);
-        assert_eq!(dispatcher.count, 6);
+        assert_eq!(dispatcher.counts, [1; DRYERS]);
     }
 }
 
@@ -284,14 +414,15 @@ fn to_the_stop() {
             (2, FIRST, Report::next(2, 1)),
             (4, FIRST, Report::next(2, 1)),
         ];
-        let last = [2, 4].map(|dryer| (dryer, Answer::new(2, 1), stop));
+        let last = [2, 4].map(|dryer| (dryer, LAST, stop));
         for (dryer, answer, report) in turns.into_iter().chain(last) {
             assert_eq!((calls.turn)(&dispatcher), dryer);
             assert_eq!((calls.enter)(&mut dispatcher, dryer, answer), report);
         }
         assert_eq!((calls.turn)(&dispatcher), NOBODY);
         assert_eq!((calls.ask)(&dispatcher, 2), stop);
-        assert_eq!((dispatcher.last, dispatcher.count), (4, 4));
+        let counts = [0, 0, 2, 0, 2, 0];
+        assert_eq!((dispatcher.last, dispatcher.counts), (4, counts));
         assert_eq!((calls.open)(&mut dispatcher, 4, &M), Report::next(0, 0));
         calls.serves(&mut dispatcher, &[4]);
     }

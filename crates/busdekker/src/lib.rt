@@ -24,7 +24,7 @@ use rules::Row;
 pub extern "C" fn busdekker_version() -> u32
     ensures { λ r. ⌜ r ≡ version ⌝ }
 {
-    4
+    5
 }
 
 // t and the most answers that an opening may need.
@@ -110,7 +110,7 @@ pub extern "C" fn busdekker_write(search: &Search, out: &mut [u8]) -> WrittenRow
     numbered::step_write(*search, out)
 }
 
-// A fresh dispatcher: no search, none served and a count of 0.
+// A fresh dispatcher: no search, none served and every count 0.
 #[no_mangle]
 pub extern "C" fn busdekker_dispatch_fresh() -> Dispatcher
     ensures { λ r. ⌜ r ≡ freshDispatcher ⌝ }

@@ -33,7 +33,7 @@ fn is_dryer(turn: Turn, dryer: u32) -> bool
     }
 }
 
-// The count with one more served.
+// A count with one more served.
 fn one_more(count: u32) -> u32
     ensures { λ r. ⌜ r ≡ raised count ⌝ }
 {
@@ -50,10 +50,9 @@ fn served(d: Dispatcher, dryer: u32, search: Search) -> Dispatcher
     ensures { λ r. ⌜ r ≡ servedAt d dryer search ⌝ }
 {
     let at = dryer as usize;
-    let mut next = d;
-    next.searches[at] = search;
+    let mut next = with_search(d, dryer, search);
     next.last = dryer;
-    next.count = one_more(d.count);
+    next.counts[at] = one_more(d.counts[at]);
     next
 }
 
@@ -84,7 +83,7 @@ fn settled(d: Dispatcher, e: Entered, next: Dispatcher) -> Dispatched
     }
 }
 
-// A dispatcher with no search, none served and a count of 0.
+// A dispatcher with no search, none served and every count 0.
 pub fn fresh() -> Dispatcher
     ensures { λ r. ⌜ r ≡ freshDispatcher ⌝ }
 {
@@ -92,7 +91,7 @@ pub fn fresh() -> Dispatcher
     Dispatcher {
         searches: [none; dispatching::SEARCHES],
         last: dispatching::DRYERS,
-        count: 0,
+        counts: [0; dispatching::SEARCHES],
     }
 }
 

@@ -74,13 +74,13 @@ module _ (d₀ : Dispatcher) (ks ds : List ℕ) (xs : List ℤ) (before : List �
         Rows.made-more dispatchers d₀ calls before made (callAt ks ds xs i) (rw here at (calls-drop ks ds xs 0 (howMany ks ds xs before) i (omega arith)))
         (one .left) (one .written)
 
-    pub made-all : length (d₀ .searches) ≡ dryers → m ≤ i → DispatcherRuns d₀ ks ds xs before d list
+    pub made-all : length (d₀ .searches) ≡ dryers → length (d₀ .counts) ≡ dryers → m ≤ i → DispatcherRuns d₀ ks ds xs before d list
     unfolding dispatchers
-    made-all six h =
+    made-all six six-counts h =
         let count = calls-number ks ds xs 0 (howMany ks ds xs before) in
         let all = Rows.made-all dispatchers d₀ calls before made (omega (arith, count)) (omega (arith, count)) in
         record {
           left = all .0;
           written = all .1;
-          run = run d₀ six calls;
+          run = run d₀ six six-counts calls;
         }

@@ -1,5 +1,5 @@
 -- Runs of calls to a dispatcher: openings and answers in any mixture, each call getting the dispatcher as the one before left it. What
--- the claim in `Run` speaks of: the dryers served, the count, a dryer's own calls, and what its search is by these alone.
+-- the claim in `Run` speaks of: the dryers served, the counts, a dryer's own calls, and what its search is by these alone.
 -- Assumes nothing.
 use Prim.Native.Nat.{ℕ, _+_, _<_, min, max}
 use mathlib.Core.Path.{_≡_}
@@ -17,7 +17,7 @@ use Rattle.held.specs.Held.{reopenOf, enterOf}
 use Rattle.dispatching.specs.declared.Dispatcher.{Dispatcher}
 use Rattle.dispatching.specs.declared.Turn.{Turn}
 use Rattle.dispatching.specs.declared.Dispatched.{Dispatched}
-use Rattle.dispatching.specs.Dispatching.{dryers, ceiling, searchAt, unfinished, turnOf, openingAt, answerAt}
+use Rattle.dispatching.specs.Dispatching.{dryers, ceiling, searchAt, unfinished, turnOf, raised, openingAt, answerAt}
 
 -- ---- a run
 
@@ -76,9 +76,36 @@ abbrev pub among : ℕ → List ℕ → Bool
 among i [] = false
 among i (j ∷ js) = eqb j i || among i js
 
+-- ---- the counts
+
+-- how often a dryer is among the served
+abbrev pub times : ℕ → List ℕ → ℕ
+times i [] = 0
+times i (j ∷ js) = cond (eqb j i) 1 0 + times i js
+
 -- a count after n more served answers: it goes up to the ceiling, and one that is there or past it remains
 abbrev pub countAfter : ℕ → ℕ → ℕ
 countAfter c n = max c (min (c + n) ceiling)
+
+-- what counts add up to
+abbrev pub sumOf : List ℕ → ℕ
+sumOf [] = 0
+sumOf (c ∷ cs) = c + sumOf cs
+
+-- the six together
+abbrev pub total : Dispatcher → ℕ
+total d = sumOf (d .counts)
+
+-- the old count: the single one of request 2026-04, which no dispatcher keeps now. Beside the same run, an accepted answer at any dryer raises
+-- it, and every other call leaves it
+abbrev pub oldCountBy : Dispatcher → ℕ → Call → ℕ
+oldCountBy d n (opening i o) = n
+oldCountBy d n (answer i a) = cond (accepts d (answer i a)) (raised n) n
+
+-- what it would show after a run at whose beginning it showed n
+unfoldable pub oldCountAfter : Dispatcher → ℕ → List Call → ℕ
+oldCountAfter d n [] = n
+oldCountAfter d n (c ∷ calls) = oldCountAfter (callOf d c .dispatcher) (oldCountBy d n c) calls
 
 -- ---- a dryer's own calls
 

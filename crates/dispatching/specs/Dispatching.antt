@@ -1,4 +1,5 @@
--- The dispatcher of request 2026-04: six dryers and one oven. Whose turn it is, an opening, an answer, the report of a dryer, and the count.
+-- The dispatcher of requests 2026-04 and 2026-05: six dryers and one oven. Whose turn it is, an opening, an answer, the report of a dryer, and
+-- the counts.
 -- Assumes nothing.
 use Prim.Native.Nat.{ℕ, zero, suc, _+_, _%_}
 use mathlib.Core.Bool.{Bool, true, false, cond, not}
@@ -22,7 +23,7 @@ use Rattle.dispatching.specs.declared.Dispatched.{Dispatched}
 abbrev pub dryers : ℕ
 dryers = 6
 
--- where the count remains
+-- where a count remains
 abbrev pub ceiling : ℕ
 ceiling = 1000000000
 
@@ -40,13 +41,17 @@ stillSearching = 16
 
 -- ---- the dispatcher
 
--- no search, none served and a count of 0. A dryer with no search holds a blank; a mark of 6 is no dryer, so none is served
+-- no search, none served and every count 0. A dryer with no search holds a blank; a mark of 6 is no dryer, so none is served
 abbrev pub freshDispatcher : Dispatcher
-freshDispatcher = record { searches = replicate dryers blank; last = dryers; count = 0 }
+freshDispatcher = record { searches = replicate dryers blank; last = dryers; counts = replicate dryers 0 }
 
 -- the search at a dryer
 abbrev pub searchAt : Dispatcher → ℕ → Search
 searchAt d i = getD (d .searches) i blank
+
+-- how many answers have been served at a dryer
+abbrev pub countAt : Dispatcher → ℕ → ℕ
+countAt d i = getD (d .counts) i 0
 
 -- ---- whose turn it is
 
@@ -89,17 +94,17 @@ told r d = record { report = r; dispatcher = d }
 abbrev pub refusedWith : ℕ → Dispatcher → Dispatched
 refusedWith n d = told (Report.Refused n 0) d
 
--- an accepted opening: its fresh search at the dryer. No turn is served: the mark and the count stay
+-- an accepted opening: its fresh search at the dryer. No turn is served: the mark and the counts stay
 abbrev pub withSearch : Dispatcher → ℕ → Search → Dispatcher
-withSearch d i s = record { searches = set (d .searches) i s; last = d .last; count = d .count }
+withSearch d i s = record { searches = set (d .searches) i s; last = d .last; counts = d .counts }
 
 -- one more served, up to the ceiling
 unfoldable pub raised : ℕ → ℕ
 raised n = cond (ltb n ceiling) (n + 1) n
 
--- an accepted answer serves the turn: the search with the answer, the mark at its dryer, and the count
+-- an accepted answer serves the turn: the search with the answer, the mark at its dryer, and that dryer's count
 abbrev pub servedAt : Dispatcher → ℕ → Search → Dispatcher
-servedAt d i s = record { searches = set (d .searches) i s; last = i; count = raised (d .count) }
+servedAt d i s = record { searches = set (d .searches) i s; last = i; counts = set (d .counts) i (raised (countAt d i)) }
 
 -- ---- the calls
 

@@ -2,7 +2,7 @@
 -- Assumes nothing.
 use Prim.Native.Nat.{ℕ}
 use mathlib.Core.Path.{_≡_, refl}
-use mathlib.Core.List.{List, [], _∷_, map}
+use mathlib.Core.List.{List, [], _∷_, _++_, map}
 use lib.IntN.{pos, negsuc}
 use lib.ListN.{take, replicate}
 use Rattle.rules.specs.declared.Opening.{Opening}
@@ -15,7 +15,8 @@ use Rattle.dispatching.specs.declared.Dispatcher.{Dispatcher}
 use Rattle.dispatching.specs.declared.Turn.{Turn}
 use Rattle.dispatching.specs.Dispatching.{freshDispatcher, searchAt, unfinished, firstFrom, turnOf, raised, settledBy, openingAt}
 use Rattle.dispatching.specs.Dispatching.{answerAt, dryerReport}
-use Rattle.dispatching.specs.Calls.{Call, opening, answer, callOf, dispatcherAfter, reportsOf, servings, servingsIn, ownCalls, since, historyAt}
+use Rattle.dispatching.specs.Calls.{Call, opening, answer, callOf, dispatcherAfter, reportsOf, servings, servingsIn, total, oldCountAfter}
+use Rattle.dispatching.specs.Calls.{ownCalls, since, historyAt}
 
 -- ---- openings, dispatchers and runs
 
@@ -34,10 +35,10 @@ abbrev first : ℕ → Call
 first i = answer i (record { point = pos 0; value = pos 1 })
 
 abbrev marked : Dispatcher → ℕ → Dispatcher
-marked d n = record { searches = d .searches; last = n; count = d .count }
+marked d n = record { searches = d .searches; last = n; counts = d .counts }
 
-abbrev counted : Dispatcher → ℕ → Dispatcher
-counted d n = record { searches = d .searches; last = d .last; count = n }
+abbrev counted : Dispatcher → List ℕ → Dispatcher
+counted d cs = record { searches = d .searches; last = d .last; counts = cs }
 
 -- whose turn it is after each call of a run
 abbrev turnsOf : Dispatcher → List Call → List Turn
@@ -104,7 +105,14 @@ later =
 
 -- a host's dispatcher whose searches say that they hold 73 answers
 abbrev junk : Dispatcher
-junk = record { searches = replicate 6 (record { opening = wide; count = 73; slots = replicate 72 (pos 5) }); last = 7; count = 9 }
+junk = record { searches = replicate 6 (record { opening = wide; count = 73; slots = replicate 72 (pos 5) }); last = 7; counts = replicate 6 9 }
+
+-- counts of which one is at the ceiling, and counts that only together are
+abbrev one-full : List ℕ
+one-full = 4 ∷ 1000000000 ∷ 999999999 ∷ 0 ∷ 7 ∷ 4294967295 ∷ []
+
+abbrev full-together : List ℕ
+full-together = 4 ∷ 500000000 ∷ 499999988 ∷ 0 ∷ 7 ∷ 0 ∷ []
 
 -- ---- what comes of them
 
@@ -114,8 +122,8 @@ record Worked : Type 0 where
   fresh-report : map (dryerReport freshDispatcher) (0 ∷ 5 ∷ 6 ∷ []) ≡ refuse 3 0 ∷ refuse 3 0 ∷ refuse 14 0 ∷ []
   -- ---- three dryers have a search: before any is served, counting starts at 0
   opened-turns : turnsOf freshDispatcher openings ≡ D 4 ∷ D 1 ∷ D 1 ∷ []
-  -- an opening serves no turn: nobody is served, and the count stays
-  opened-count : three ≡ marked (counted three 0) 6
+  -- an opening serves no turn: nobody is served, and the counts stay
+  opened-counts : three ≡ marked (counted three (replicate 6 0)) 6
   -- counting round from a mark; one other than 0 to 5 reads as none served
   marks : map (λ n. turnOf (marked three n)) (0 ∷ 1 ∷ 2 ∷ 4 ∷ 5 ∷ 6 ∷ 4294967295 ∷ []) ≡ D 1 ∷ D 2 ∷ D 4 ∷ D 1 ∷ D 1 ∷ D 1 ∷ D 1 ∷ []
   -- a dryer alone has every turn, its own mark or none
@@ -127,7 +135,9 @@ record Worked : Type 0 where
       ∷ next 100 1 ∷ refuse 8 1 ∷ []
   run-turns : turnsOf three calls ≡ D 1 ∷ D 1 ∷ D 2 ∷ D 2 ∷ D 2 ∷ D 2 ∷ D 2 ∷ D 2 ∷ D 4 ∷ D 4 ∷ D 0 ∷ D 1 ∷ D 1 ∷ []
   run-servings : servings three calls ≡ 1 ∷ 2 ∷ 4 ∷ 0 ∷ []
-  run-count : dispatcherAfter three calls .count ≡ 4
+  -- a count for each dryer; the old count is their sum
+  run-counts : dispatcherAfter three calls .counts ≡ 1 ∷ 1 ∷ 1 ∷ 0 ∷ 1 ∷ 0 ∷ []
+  run-old-count : oldCountAfter freshDispatcher 0 (openings ++ calls) ≡ 4
   -- the accepted calls for a dryer are its own, and the others' leave its search
   own : map (λ i. ownCalls three i calls) (0 ∷ 1 ∷ 5 ∷ []) ≡ (opening 0 wide ∷ first 0 ∷ []) ∷ (first 1 ∷ []) ∷ [] ∷ []
   own-history : historyAt three calls 13 0 ≡ since wide (record { point = pos 0; value = pos 1 } ∷ [])
@@ -140,32 +150,41 @@ record Worked : Type 0 where
   later-reports : reportsOf freshDispatcher later ≡ next 0 0 ∷ next 1 1 ∷ Report.Stop 0 1 0 2 ∷ refuse 3 0 ∷ refuse 15 0 ∷ next 0 0 ∷ []
   later-turns : turnsOf freshDispatcher later ≡ D 5 ∷ D 5 ∷ Turn.Nobody ∷ Turn.Nobody ∷ Turn.Nobody ∷ D 5 ∷ []
   refused-opening : dryerReport (dispatcherAfter freshDispatcher (take 4 later)) 5 ≡ Report.Stop 0 1 0 2
-  -- the accepted one begins anew: no answer of the search before it is left
+  -- the accepted one begins anew: no answer of the search before it is left. The count of those served there is not cleared
   reopened : searchAt (dispatcherAfter freshDispatcher later) 5 ≡ freshOf wide
+  uncleared : dispatcherAfter freshDispatcher later .counts ≡ 0 ∷ 0 ∷ 0 ∷ 0 ∷ 0 ∷ 2 ∷ []
   -- ---- searches that are refused never get the turn, and an opening may take their place
   junk-turn : turnOf junk ≡ Turn.Nobody
   junk-reports : dryerReport junk 2 ∷ reportsOf junk (first 2 ∷ opening 2 wide ∷ first 2 ∷ []) ≡ refuse 9 0 ∷ refuse 15 0 ∷ next 0 0 ∷ next 100 1 ∷ []
-  -- ---- the count at the ceiling
+  -- ---- the counts at the ceiling: each has its own
   ceilings : map raised (0 ∷ 999999999 ∷ 1000000000 ∷ 4294967295 ∷ []) ≡ 1 ∷ 1000000000 ∷ 1000000000 ∷ 4294967295 ∷ []
-  served-at-ceiling : callOf (counted three 1000000000) (first 1) .dispatcher .count ≡ 1000000000
+  one-at-ceiling : dispatcherAfter (counted three one-full) (first 1 ∷ first 2 ∷ []) .counts
+      ≡ 4 ∷ 1000000000 ∷ 1000000000 ∷ 0 ∷ 7 ∷ 4294967295 ∷ []
+  -- together they pass it, where the old count remains
+  passed-together : dispatcherAfter (counted three full-together) (first 1 ∷ first 2 ∷ []) .counts ≡ 4 ∷ 500000001 ∷ 499999989 ∷ 0 ∷ 7 ∷ 0 ∷ []
+  sums : map (λ calls. total (dispatcherAfter (counted three full-together) calls)) ([] ∷ (first 1 ∷ []) ∷ (first 1 ∷ first 2 ∷ []) ∷ [])
+      ≡ 999999999 ∷ 1000000000 ∷ 1000000001 ∷ []
+  old-counts : map (oldCountAfter (counted three full-together) 999999999) ([] ∷ (first 1 ∷ []) ∷ (first 1 ∷ first 2 ∷ []) ∷ [])
+      ≡ 999999999 ∷ 1000000000 ∷ 1000000000 ∷ []
 
 worked : Worked
 unfolding turnOf firstFrom unfinished heldReport standingOf progressOf beginOf openingRefusal reportAt openingAt answerAt settledBy
     reopenOf reportOf enterOf takeOf offerOf answerRefusal sameSide bracketReport raised dryerReport dispatcherAfter reportsOf servings ownCalls
-    stoppedOf startOf toleranceAt
+    oldCountAfter stoppedOf startOf toleranceAt
 worked =
     record {
       fresh-turn = refl;
       fresh-report = refl;
       opened-turns = refl;
-      opened-count = refl;
+      opened-counts = refl;
       marks = refl;
       alone = refl;
       alone-at-first = refl;
       run-reports = refl;
       run-turns = refl;
       run-servings = refl;
-      run-count = refl;
+      run-counts = refl;
+      run-old-count = refl;
       own = refl;
       own-history = refl;
       reports = refl;
@@ -175,8 +194,12 @@ worked =
       later-turns = refl;
       refused-opening = refl;
       reopened = refl;
+      uncleared = refl;
       junk-turn = refl;
       junk-reports = refl;
       ceilings = refl;
-      served-at-ceiling = refl;
+      one-at-ceiling = refl;
+      passed-together = refl;
+      sums = refl;
+      old-counts = refl;
     }

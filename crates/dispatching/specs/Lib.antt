@@ -6,5 +6,6 @@ pub mod Run
 mod Examples
 pub mod DispatchingLaws
 pub mod RunLaws
+pub mod CountLaws
 pub mod HistoryLaws
 pub mod RunHolds

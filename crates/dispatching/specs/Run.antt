@@ -1,8 +1,8 @@
--- The claim of request 2026-04 about whole runs: for every dispatcher that a host may hold, and so for a fresh one, and every list of calls, of
--- any length, one record whose fields are the request's sentences, said of every place of the run. Nothing is proved here: `run` in RunHolds is
--- the proof.
+-- The claim of requests 2026-04 and 2026-05 about whole runs: for every dispatcher that a host may hold, and so for a fresh one, and every list
+-- of calls, of any length, one record whose fields are the requests' sentences, said of every place of the run. Nothing is proved here: `run` in
+-- RunHolds is the proof.
 -- Assumes nothing.
-use Prim.Native.Nat.{ℕ, _+_, _≤_, _<_, _%_}
+use Prim.Native.Nat.{ℕ, _+_, _≤_, _<_, _%_, min}
 use mathlib.Core.Path.{_≡_}
 use mathlib.Core.Logic.{_≢_}
 use mathlib.Core.Bool.{true, false}
@@ -18,9 +18,10 @@ use Rattle.journal.specs.Journal.{journalReport}
 use Rattle.journal.specs.Run.{into, journalOf, holding, Run}
 use Rattle.dispatching.specs.declared.Dispatcher.{Dispatcher}
 use Rattle.dispatching.specs.declared.Turn.{Turn}
-use Rattle.dispatching.specs.Dispatching.{dryers, searchAt, unfinished, startAfter, turnOf, dryerReport}
-use Rattle.dispatching.specs.Calls.{Call, callOf, dryerOf, dispatcherAt, servedBy, servings, servingsIn, among, countAfter}
-use Rattle.dispatching.specs.Calls.{ownCalls, loneOf, loneAfter, Due, none, since, historyAt}
+use Rattle.dispatching.specs.Dispatching.{dryers, ceiling, freshDispatcher, searchAt, countAt, unfinished, startAfter, turnOf}
+use Rattle.dispatching.specs.Dispatching.{raised, dryerReport}
+use Rattle.dispatching.specs.Calls.{Call, opening, callOf, dryerOf, dispatcherAt, servedBy, servings, servingsIn, among}
+use Rattle.dispatching.specs.Calls.{times, countAfter, total, oldCountAfter, ownCalls, loneOf, loneAfter, Due, none, since, historyAt}
 
 -- ---- words of the claim
 
@@ -71,6 +72,15 @@ pub record AtEach (d : Dispatcher) : Type 0 where
   -- and where it is accepted, that is the report of its dryer's search as it then stands
   pub told : (c : Call) → isRefusal (callOf d c .report) ≡ false → callOf d c .report ≡ dryerReport (callOf d c .dispatcher) (dryerOf c)
 
+-- what is true of its counts, and of whatever call c comes next
+pub record CountsAtEach (d : Dispatcher) : Type 0 where
+  -- whoever a call serves has one more, up to the ceiling
+  pub one-more : (i : ℕ) (c : Call) → servedBy d c ≡ i ∷ [] → countAt (callOf d c .dispatcher) i ≡ raised (countAt d i)
+  -- one crew's answers never move another's count
+  pub others : (i : ℕ) (c : Call) → i ≢ dryerOf c → countAt (callOf d c .dispatcher) i ≡ countAt d i
+  -- an opening does not clear it
+  pub uncleared : (i : ℕ) (o : Opening) → callOf d (opening i o) .dispatcher .counts ≡ d .counts
+
 -- ---- the claim
 
 pub record DispatcherRun (d : Dispatcher) (calls : List Call) : Type 0 where
@@ -79,8 +89,11 @@ pub record DispatcherRun (d : Dispatcher) (calls : List Call) : Type 0 where
   -- a dryer whose search is accepted and unfinished waits for at most five served answers before its own turn
   pub waiting : (p n i : ℕ) → i < dryers → unfinished (searchAt (dispatcherAt d calls p) i) ≡ true → among i (servingsIn d calls p n) ≡ false
       → Waits d calls p n i
-  -- the count is that of the served answers while below the ceiling, and remains as it is once that is reached or passed
-  pub served : (p : ℕ) → dispatcherAt d calls p .count ≡ countAfter (d .count) (length (servings d (take p calls)))
+  pub counts-at-each : (p : ℕ) → CountsAtEach (dispatcherAt d calls p)
+  -- a dryer's count is that of the answers served there while below the ceiling, and remains as it is once that is reached or passed
+  pub served : (p i : ℕ) → countAt (dispatcherAt d calls p) i ≡ countAfter (countAt d i) (times i (servings d (take p calls)))
+  -- the old count, had it begun as the sum of the six up to the ceiling, is their sum up to the ceiling
+  pub old-count : (p : ℕ) → oldCountAfter d (min (total d) ceiling) (take p calls) ≡ min (total (dispatcherAt d calls p)) ceiling
   -- the search at a dryer is that of its own accepted calls alone
   pub apart : (p i : ℕ) → searchAt (dispatcherAt d calls p) i ≡ loneAfter (searchAt d i) (ownCalls d i (take p calls))
   -- once an opening has been accepted for a dryer, its search keeps demand 3 with that opening and the answers accepted since
@@ -94,6 +107,17 @@ pub record DispatcherRun (d : Dispatcher) (calls : List Call) : Type 0 where
       → searchAt d i ≡ searchAt d' i → ownCalls d i (take p calls) ≡ ownCalls d' i (take p' calls')
       → dryerReport (dispatcherAt d calls p) i ≡ dryerReport (dispatcherAt d' calls' p') i
 
--- for every dispatcher, which has six searches, and every list of calls
+-- for every dispatcher, which has six searches and six counts, and every list of calls
 abbrev pub EveryDispatcherRun : Type 0
-EveryDispatcherRun = (d : Dispatcher) → length (d .searches) ≡ dryers → (calls : List Call) → DispatcherRun d calls
+EveryDispatcherRun =
+    (d : Dispatcher) → length (d .searches) ≡ dryers → length (d .counts) ≡ dryers → (calls : List Call) → DispatcherRun d calls
+
+-- ---- from a fresh dispatcher, all six counts 0
+
+pub record FromFresh (calls : List Call) : Type 0 where
+  -- while below the ceiling, a dryer's count is the number of answers served there
+  pub each : (p i : ℕ) → countAt (dispatcherAt freshDispatcher calls p) i < ceiling
+      → countAt (dispatcherAt freshDispatcher calls p) i ≡ times i (servings freshDispatcher (take p calls))
+  -- while the six add up to less than the ceiling, their sum is what the old count would have shown
+  pub together : (p : ℕ) → total (dispatcherAt freshDispatcher calls p) < ceiling
+      → total (dispatcherAt freshDispatcher calls p) ≡ oldCountAfter freshDispatcher 0 (take p calls)

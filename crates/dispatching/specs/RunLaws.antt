@@ -1,5 +1,5 @@
--- The laws of runs: what one call does to the one that goes on, to the mark, to the count and to a dryer's own search; and then a run, by
--- induction.
+-- The laws of runs: what one call does to the one that goes on, to the mark and to a dryer's own search; and then a run, by induction. They
+-- know nothing of the counts.
 -- Assumes nothing.
 use Prim.Native.Nat.{ℕ, zero, suc, _+_, _≤_, _<_}
 use mathlib.Core.Path.{_≡_, refl, sym, ap, subst, _∙_}
@@ -7,8 +7,8 @@ use mathlib.Core.Logic.{_≢_}
 use mathlib.Core.Bool.{Bool, true, false, cond, not, _||_}
 use mathlib.Core.List.{List, [], _∷_, _++_, append-nil, append-assoc}
 use native.Mathlib.Omega.{arith}
-use borrow.Author.Tests.{ltb-true, ltb-false, eqb-true, eqb-false}
-use lib.Dec.{ltb, eqb}
+use borrow.Author.Tests.{eqb-true, eqb-false}
+use lib.Dec.{eqb}
 use lib.ListN.{length, take, drop, length-set, length-append}
 use lib.Seq.{getD-set-same, getD-set-other}
 use Rattle.integers.specs.SignsLaws.{never}
@@ -18,9 +18,9 @@ use Rattle.held.specs.Held.{blank}
 use Rattle.dispatching.specs.declared.Dispatcher.{Dispatcher}
 use Rattle.dispatching.specs.declared.Turn.{Turn}
 use Rattle.dispatching.specs.declared.Dispatched.{Dispatched}
-use Rattle.dispatching.specs.Dispatching.{dryers, ceiling, searchAt, turnOf, raised}
+use Rattle.dispatching.specs.Dispatching.{dryers, searchAt, turnOf}
 use Rattle.dispatching.specs.DispatchingLaws.{leftBy, loneAt, call-cases, due-dryer, Queued, nearer, as-near}
-use Rattle.dispatching.specs.Calls.{Call, opening, answer, callOf, dryerOf, dispatcherAfter, serves, servedBy, servings, among, countAfter}
+use Rattle.dispatching.specs.Calls.{Call, opening, answer, callOf, dryerOf, dispatcherAfter, serves, servedBy, servings, among}
 use Rattle.dispatching.specs.Calls.{ownBy, ownCalls, loneAfter, Due}
 
 -- ---- a run in two parts
@@ -139,40 +139,6 @@ after-calls d i k w (c ∷ calls) m =
     let n = after-call d i k w c (or-left (among i (servedBy d c)) (among i (servings next calls)) both) in
     let ns = after-calls next i (n .left) (n .queued) calls (or-right (among i (servedBy d c)) (among i (servings next calls)) both) in
     record { left = ns .left; fewer = simp length-append (omega (arith, n .fewer, ns .fewer)); queued = ns .queued }
-
--- ---- the count
-
-raised-is : (c : ℕ) → raised c ≡ countAfter c 1
-unfolding raised
-raised-is c = go (ltb c ceiling) refl
-  where
-    go : (b : Bool) → ltb c ceiling ≡ b → cond b (c + 1) c ≡ countAfter c 1
-    go true e = let h = ltb-true c ceiling e in omega arith
-    go false e = let h = ltb-false c ceiling e in omega arith
-
-count-more : (c m n : ℕ) → countAfter (countAfter c m) n ≡ countAfter c (m + n)
-count-more c m n = omega arith
-
-count-none : (c : ℕ) → c ≡ countAfter c 0
-count-none c = omega arith
-
-count-call : (d : Dispatcher) (c : Call) → callOf d c .dispatcher .count ≡ countAfter (d .count) (length (servedBy d c))
-count-call d c =
-    served-cases d c (λ js d'. d' .count ≡ countAfter (d .count) (length js)) (count-none (d .count)) (λ due. accepted c (loneAt d c .search))
-  where
-    accepted : (c : Call) (s : Search) → leftBy d c s .count ≡ countAfter (d .count) (length (serves c))
-    accepted (opening i o) s = count-none (d .count)
-    accepted (answer i a) s = raised-is (d .count)
-
-pub count-calls : (d : Dispatcher) (calls : List Call) → dispatcherAfter d calls .count ≡ countAfter (d .count) (length (servings d calls))
-unfolding servings dispatcherAfter
-count-calls d [] = count-none (d .count)
-count-calls d (c ∷ calls) =
-    let next = callOf d c .dispatcher in
-    count-calls next calls
-    ∙ ap (λ (n : ℕ). countAfter n (length (servings next calls))) (count-call d c)
-    ∙ count-more (d .count) (length (servedBy d c)) (length (servings next calls))
-    ∙ ap (countAfter (d .count)) (sym (length-append (servedBy d c) (servings next calls)))
 
 -- ---- a dryer's own search
 

@@ -1,22 +1,22 @@
-// The types of the dispatcher: six dryers and one oven, of which request 2026-04 speaks. There is no function here: see specs/.
+// The types of the dispatcher: six dryers and one oven, of which requests 2026-04 and 2026-05 speak. There is no function here: see specs/.
 use held::Search;
 use rules::Report;
 
-// How many dryers share the oven: as a number, and as the length of the array of their searches.
+// How many dryers share the oven: as a number, and as the length of the arrays of their searches and counts.
 pub const DRYERS: u32 = 6;
 
 pub const SEARCHES: usize = 6;
 
-// The count of served answers remains as it is from here on.
+// A dryer's count of served answers remains as it is from here on.
 pub const CEILING: u32 = 1000000000;
 
-// A search for each dryer, the dryer served last, and how many answers have been served. A dryer with no search holds a blank, which
+// A search for each dryer, the dryer served last, and how many answers have been served at each. A dryer with no search holds a blank, which
 // every call refuses. A mark that is no dryer reads as none served.
 #[repr(C)]
 pub struct Dispatcher {
     pub searches: [Search; SEARCHES],
     pub last: u32,
-    pub count: u32,
+    pub counts: [u32; SEARCHES],
 }
 
 // Whose turn the oven is.

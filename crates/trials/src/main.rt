@@ -230,7 +230,7 @@ const NUMBERS: [i32; 44] = [
     0,
 ];
 
-// The reports of these calls to a fresh dispatcher, as far as there is room for ten; then the last served, the count, and whose turn it is.
+// The reports of these calls to a fresh dispatcher, as far as there is room for ten; then the last served, the six counts, and whose turn it is.
 fn try_dispatcher() {
     let kinds = KINDS;
     let dryers = DRYERS;
@@ -239,9 +239,19 @@ fn try_dispatcher() {
     let fresh = dispatch::fresh();
     let after = dispatch_runs::make_calls(fresh, &kinds, &dryers, &numbers, &mut rows);
     show_rows(&rows);
-    show_number(after.last, b',');
-    show_number(after.count, b',');
-    show_number(dispatch_numbers::step_turn(after), b'\n');
+    let counts = after.counts;
+    show_rows(
+        &[
+            after.last,
+            counts[0],
+            counts[1],
+            counts[2],
+            counts[3],
+            counts[4],
+            counts[5],
+            dispatch_numbers::step_turn(after),
+        ],
+    );
 }
 
 fn main() {
@@ -254,7 +264,7 @@ fn main() {
     try_junk(1);
     io::write_all(
         1,
-        b"% calls to a dispatcher, the last served, the count and the turn\n",
+        b"% calls to a dispatcher, the last served, the counts and the turn\n",
     );
     try_dispatcher();
 }

@@ -1,4 +1,4 @@
--- `dispatch::fresh` meets its contract: six times the blank search.
+-- `dispatch::fresh` meets its contract: six times the blank search, and six counts of 0.
 -- Assumes nothing.
 use mathlib.Core.Path.{ap}
 use lib.ListN.{replicate}
@@ -9,9 +9,9 @@ use borrow.Author.Needs.{needs}
 use Rattle.dispatch.proofs.fresh.Statement.{statement}
 use Rattle.dispatch.proofs.fresh.Tie as tie
 
--- a dispatcher of six such searches
+-- a dispatcher of six such searches and no count
 abbrev allOf : Search → Dispatcher
-allOf s = record { searches = replicate dryers s; last = dryers; count = 0 }
+allOf s = record { searches = replicate dryers s; last = dryers; counts = replicate dryers 0 }
 
 blank-requires : tie.Need-blank-requires
 blank-requires c κs = search needs

@@ -54,8 +54,12 @@ same-length c = c .before .loop .inv .1 .same
 returns : tie.Need-returns Inv-loop μ-loop
 returns c =
     let l = c .before in
-    let six : length (l .before .before .before .before .before .before .args .d .searches) ≡ dryers = search (length-mapped, needs) in
-    made-all _ _ _ _ _ (l .loop .inv .1) (number l) six (c .loop-test .left)
+    let at-first = l .before .before .before .before .before .before in
+    let d = at-first .args .d in
+    let owned = at-first .good .0 in
+    let six : length (d .searches) ≡ dryers = search (owned, length-mapped, needs) in
+    let six-counts : length (d .counts) ≡ dryers = search (owned, length-mapped, needs) in
+    made-all _ _ _ _ _ (l .loop .inv .1) (number l) six six-counts (c .loop-test .left)
 
 pub make-calls-spec : {M : Type 1} → statement M
 make-calls-spec =
