@@ -96,6 +96,10 @@ sumOf (c ∷ cs) = c + sumOf cs
 abbrev pub total : Dispatcher → ℕ
 total d = sumOf (d .counts)
 
+-- the dispatcher with others in place of its counts
+abbrev pub withCounts : Dispatcher → List ℕ → Dispatcher
+withCounts d cs = record { searches = d .searches; last = d .last; counts = cs }
+
 -- the old count: the single one of request 2026-04, which no dispatcher keeps now. Beside the same run, an accepted answer at any dryer raises
 -- it, and every other call leaves it
 abbrev pub oldCountBy : Dispatcher → ℕ → Call → ℕ

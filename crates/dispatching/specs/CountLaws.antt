@@ -1,7 +1,7 @@
 -- The laws of the counts: what one call does to each of them, to their sum and to the old count; and then a run, by induction.
 -- Assumes nothing.
 use Prim.Native.Nat.{ℕ, zero, suc, _+_, _≤_, _<_, min}
-use mathlib.Core.Path.{_≡_, refl, sym, ap, _∙_}
+use mathlib.Core.Path.{_≡_, refl, sym, ap, ap₂, subst, _∙_}
 use mathlib.Core.Logic.{_≢_}
 use mathlib.Core.Bool.{Bool, true, false, cond, not}
 use mathlib.Core.List.{List, [], _∷_, _++_}
@@ -11,13 +11,17 @@ use lib.Dec.{ltb, eqb}
 use lib.ListN.{length, getD, set, replicate, length-set}
 use lib.Seq.{getD-set-same, getD-set-other}
 use Rattle.rules.specs.declared.Opening.{Opening}
+use Rattle.rules.specs.declared.Report.{Report}
 use Rattle.rules.specs.Search.{isRefusal}
 use Rattle.held.specs.declared.Search.{Search}
 use Rattle.dispatching.specs.declared.Dispatcher.{Dispatcher}
-use Rattle.dispatching.specs.Dispatching.{dryers, ceiling, freshDispatcher, countAt, raised}
+use Rattle.dispatching.specs.declared.Dispatched.{Dispatched}
+use Rattle.dispatching.specs.Dispatching.{dryers, ceiling, noSuchDryer, freshDispatcher, searchAt, countAt, unfinished, turnOf, isDryer}
+use Rattle.dispatching.specs.Dispatching.{told, refusedWith, raised, settledBy, openingAt, answerAt}
 use Rattle.dispatching.specs.DispatchingLaws.{leftBy, loneAt, call-cases}
-use Rattle.dispatching.specs.Calls.{Call, opening, answer, callOf, dryerOf, dispatcherAfter, serves, servedBy, servings, Due}
-use Rattle.dispatching.specs.Calls.{times, countAfter, sumOf, total, oldCountBy, oldCountAfter}
+use Rattle.dispatching.specs.Calls.{Call, opening, answer, callOf, dryerOf, dispatcherAfter, reportsOf, serves, servedBy, servings, Due}
+use Rattle.dispatching.specs.Calls.{times, countAfter, sumOf, total, withCounts, oldCountBy, oldCountAfter}
+use Rattle.dispatching.specs.Run.{SameButCounts}
 use Rattle.dispatching.specs.RunLaws.{served-cases}
 
 -- ---- numbers
@@ -146,17 +150,67 @@ old-calls d six (c ∷ calls) =
     let next = callOf d c .dispatcher in
     ap (λ (n : ℕ). oldCountAfter next n calls) (old-call d six c) ∙ old-calls next (six-counts d c six) calls
 
--- ---- from a fresh dispatcher
+-- ---- the counts alter nothing else
+
+-- an answer beside another that differs from it in the counts at most
+abbrev Beside : Dispatched → Dispatched → Type 0
+Beside r r' = r' ≡ told (r .report) (withCounts (r .dispatcher) (r' .dispatcher .counts))
+
+-- what a call answers, by its three tests: the dispatcher's own two, and that of the search
+abbrev answered : Bool → Bool → Bool → ℕ → Report → Dispatcher → Dispatcher → Dispatched
+answered nowhere early refused n r d next =
+    cond nowhere (refusedWith noSuchDryer d) (cond early (refusedWith n d) (cond refused (told r d) (told r next)))
+
+module _ (d : Dispatcher) (cs : List ℕ) where
+  beside-answered : (nowhere early refused : Bool) (n : ℕ) (r : Report) (next next' : Dispatcher) → next' ≡ withCounts next (next' .counts)
+      → Beside (answered nowhere early refused n r d next) (answered nowhere early refused n r (withCounts d cs) next')
+  beside-answered true early refused n r next next' e = refl
+  beside-answered false true refused n r next next' e = refl
+  beside-answered false false true n r next next' e = refl
+  beside-answered false false false n r next next' e = ap (told r) e
+
+  beside-call : (c : Call) → Beside (callOf d c) (callOf (withCounts d cs) c)
+  unfolding openingAt answerAt settledBy turnOf
+  beside-call (opening i o) =
+      beside-answered (not (ltb i dryers)) (unfinished (searchAt d i)) (isRefusal (loneAt d (opening i o) .report)) _ _ _ _ refl
+  beside-call (answer i a) =
+      beside-answered (not (ltb i dryers)) (not (isDryer (turnOf d) i)) (isRefusal (loneAt d (answer i a) .report)) _ _ _ _ refl
+
+pub beside-reports : (d : Dispatcher) (cs : List ℕ) (calls : List Call) → reportsOf (withCounts d cs) calls ≡ reportsOf d calls
+unfolding reportsOf
+beside-reports d cs [] = refl
+beside-reports d cs (c ∷ calls) =
+    let next = callOf d c .dispatcher in
+    let with-others = callOf (withCounts d cs) c .dispatcher in
+    let e = beside-call d cs c in
+    ap₂ _∷_ (ap (λ (r : Dispatched). r .report) e)
+    (ap (λ (r : Dispatched). reportsOf (r .dispatcher) calls) e ∙ beside-reports next (with-others .counts) calls)
+
+pub beside-calls : (d : Dispatcher) (cs : List ℕ) (calls : List Call)
+    → SameButCounts (dispatcherAfter (withCounts d cs) calls) (dispatcherAfter d calls)
+unfolding dispatcherAfter
+beside-calls d cs [] = record { searches = refl; last = refl }
+beside-calls d cs (c ∷ calls) =
+    let next = callOf d c .dispatcher in
+    let with-others = callOf (withCounts d cs) c .dispatcher in
+    subst (λ (r : Dispatched). SameButCounts (dispatcherAfter (r .dispatcher) calls) (dispatcherAfter next calls)) (sym (beside-call d cs c))
+    (beside-calls next (with-others .counts) calls)
+
+-- ---- from counts of 0
 
 no-count : (n i : ℕ) → _≡_ {A = ℕ} (getD (replicate n 0) i 0) 0
 no-count zero i = refl
 no-count (suc n) zero = refl
 no-count (suc n) (suc i) = no-count n i
 
-pub fresh-count : (i : ℕ) (calls : List Call) → countAt (dispatcherAfter freshDispatcher calls) i < ceiling
-    → countAt (dispatcherAfter freshDispatcher calls) i ≡ times i (servings freshDispatcher calls)
-fresh-count i calls h = omega (arith, count-calls freshDispatcher refl i calls, no-count dryers i)
+module _ (d : Dispatcher) (six : length (d .counts) ≡ dryers) (zeros : d .counts ≡ freshDispatcher .counts) (calls : List Call) where
+  pub count-from-zero : (i : ℕ) → countAt (dispatcherAfter d calls) i < ceiling → countAt (dispatcherAfter d calls) i ≡ times i (servings d calls)
+  count-from-zero i h =
+      let began : countAt d i ≡ 0 = ap (λ (cs : List ℕ). getD cs i 0) zeros ∙ no-count dryers i in
+      omega (arith, count-calls d six i calls)
 
-pub fresh-sum : (calls : List Call) → total (dispatcherAfter freshDispatcher calls) < ceiling
-    → total (dispatcherAfter freshDispatcher calls) ≡ oldCountAfter freshDispatcher 0 calls
-fresh-sum calls h = omega (arith, old-calls freshDispatcher refl calls)
+  pub sum-from-zero : total (dispatcherAfter d calls) < ceiling → total (dispatcherAfter d calls) ≡ oldCountAfter d 0 calls
+  sum-from-zero h =
+      let began : min (total d) ceiling ≡ 0 = ap (λ (cs : List ℕ). min (sumOf cs) ceiling) zeros in
+      let ended : total (dispatcherAfter d calls) ≡ min (total (dispatcherAfter d calls)) ceiling = omega arith in
+      ended ∙ sym (old-calls d six calls) ∙ ap (λ (n : ℕ). oldCountAfter d n calls) began

@@ -15,8 +15,8 @@ use Rattle.dispatching.specs.declared.Dispatcher.{Dispatcher}
 use Rattle.dispatching.specs.declared.Turn.{Turn}
 use Rattle.dispatching.specs.Dispatching.{freshDispatcher, searchAt, unfinished, firstFrom, turnOf, raised, settledBy, openingAt}
 use Rattle.dispatching.specs.Dispatching.{answerAt, dryerReport}
-use Rattle.dispatching.specs.Calls.{Call, opening, answer, callOf, dispatcherAfter, reportsOf, servings, servingsIn, total, oldCountAfter}
-use Rattle.dispatching.specs.Calls.{ownCalls, since, historyAt}
+use Rattle.dispatching.specs.Calls.{Call, opening, answer, callOf, dispatcherAfter, reportsOf, servings, servingsIn, total, withCounts}
+use Rattle.dispatching.specs.Calls.{oldCountAfter, ownCalls, since, historyAt}
 
 -- ---- openings, dispatchers and runs
 
@@ -36,9 +36,6 @@ first i = answer i (record { point = pos 0; value = pos 1 })
 
 abbrev marked : Dispatcher → ℕ → Dispatcher
 marked d n = record { searches = d .searches; last = n; counts = d .counts }
-
-abbrev counted : Dispatcher → List ℕ → Dispatcher
-counted d cs = record { searches = d .searches; last = d .last; counts = cs }
 
 -- whose turn it is after each call of a run
 abbrev turnsOf : Dispatcher → List Call → List Turn
@@ -123,7 +120,7 @@ record Worked : Type 0 where
   -- ---- three dryers have a search: before any is served, counting starts at 0
   opened-turns : turnsOf freshDispatcher openings ≡ D 4 ∷ D 1 ∷ D 1 ∷ []
   -- an opening serves no turn: nobody is served, and the counts stay
-  opened-counts : three ≡ marked (counted three (replicate 6 0)) 6
+  opened-counts : three ≡ marked (withCounts three (replicate 6 0)) 6
   -- counting round from a mark; one other than 0 to 5 reads as none served
   marks : map (λ n. turnOf (marked three n)) (0 ∷ 1 ∷ 2 ∷ 4 ∷ 5 ∷ 6 ∷ 4294967295 ∷ []) ≡ D 1 ∷ D 2 ∷ D 4 ∷ D 1 ∷ D 1 ∷ D 1 ∷ D 1 ∷ []
   -- a dryer alone has every turn, its own mark or none
@@ -158,13 +155,13 @@ record Worked : Type 0 where
   junk-reports : dryerReport junk 2 ∷ reportsOf junk (first 2 ∷ opening 2 wide ∷ first 2 ∷ []) ≡ refuse 9 0 ∷ refuse 15 0 ∷ next 0 0 ∷ next 100 1 ∷ []
   -- ---- the counts at the ceiling: each has its own
   ceilings : map raised (0 ∷ 999999999 ∷ 1000000000 ∷ 4294967295 ∷ []) ≡ 1 ∷ 1000000000 ∷ 1000000000 ∷ 4294967295 ∷ []
-  one-at-ceiling : dispatcherAfter (counted three one-full) (first 1 ∷ first 2 ∷ []) .counts
+  one-at-ceiling : dispatcherAfter (withCounts three one-full) (first 1 ∷ first 2 ∷ []) .counts
       ≡ 4 ∷ 1000000000 ∷ 1000000000 ∷ 0 ∷ 7 ∷ 4294967295 ∷ []
   -- together they pass it, where the old count remains
-  passed-together : dispatcherAfter (counted three full-together) (first 1 ∷ first 2 ∷ []) .counts ≡ 4 ∷ 500000001 ∷ 499999989 ∷ 0 ∷ 7 ∷ 0 ∷ []
-  sums : map (λ calls. total (dispatcherAfter (counted three full-together) calls)) ([] ∷ (first 1 ∷ []) ∷ (first 1 ∷ first 2 ∷ []) ∷ [])
+  passed-together : dispatcherAfter (withCounts three full-together) (first 1 ∷ first 2 ∷ []) .counts ≡ 4 ∷ 500000001 ∷ 499999989 ∷ 0 ∷ 7 ∷ 0 ∷ []
+  sums : map (λ calls. total (dispatcherAfter (withCounts three full-together) calls)) ([] ∷ (first 1 ∷ []) ∷ (first 1 ∷ first 2 ∷ []) ∷ [])
       ≡ 999999999 ∷ 1000000000 ∷ 1000000001 ∷ []
-  old-counts : map (oldCountAfter (counted three full-together) 999999999) ([] ∷ (first 1 ∷ []) ∷ (first 1 ∷ first 2 ∷ []) ∷ [])
+  old-counts : map (oldCountAfter (withCounts three full-together) 999999999) ([] ∷ (first 1 ∷ []) ∷ (first 1 ∷ first 2 ∷ []) ∷ [])
       ≡ 999999999 ∷ 1000000000 ∷ 1000000000 ∷ []
 
 worked : Worked

@@ -20,8 +20,9 @@ use Rattle.dispatching.specs.declared.Dispatcher.{Dispatcher}
 use Rattle.dispatching.specs.declared.Turn.{Turn}
 use Rattle.dispatching.specs.Dispatching.{dryers, ceiling, freshDispatcher, searchAt, countAt, unfinished, startAfter, turnOf}
 use Rattle.dispatching.specs.Dispatching.{raised, dryerReport}
-use Rattle.dispatching.specs.Calls.{Call, opening, callOf, dryerOf, dispatcherAt, servedBy, servings, servingsIn, among}
-use Rattle.dispatching.specs.Calls.{times, countAfter, total, oldCountAfter, ownCalls, loneOf, loneAfter, Due, none, since, historyAt}
+use Rattle.dispatching.specs.Calls.{Call, opening, callOf, dryerOf, reportsOf, dispatcherAt, servedBy, servings, servingsIn, among}
+use Rattle.dispatching.specs.Calls.{times, countAfter, total, withCounts, oldCountAfter}
+use Rattle.dispatching.specs.Calls.{ownCalls, loneOf, loneAfter, Due, none, since, historyAt}
 
 -- ---- words of the claim
 
@@ -49,6 +50,11 @@ pub record Kept (s : Search) (o : Opening) (answers : List Answer) : Type 0 wher
   pub search : s ≡ holding o answers
   pub report : heldReport s ≡ journalReport o answers
   pub run : Run o (map into answers)
+
+-- two dispatchers differ in their counts at most
+pub record SameButCounts (d d' : Dispatcher) : Type 0 where
+  pub searches : d .searches ≡ d' .searches
+  pub last : d .last ≡ d' .last
 
 -- ---- at each place
 
@@ -81,19 +87,22 @@ pub record CountsAtEach (d : Dispatcher) : Type 0 where
   -- an opening does not clear it
   pub uncleared : (i : ℕ) (o : Opening) → callOf d (opening i o) .dispatcher .counts ≡ d .counts
 
+-- ---- from a dispatcher with all six counts 0, as a fresh one has them
+
+pub record FromZero (d : Dispatcher) (calls : List Call) : Type 0 where
+  -- while below the ceiling, a dryer's count is the number of answers served there
+  pub each : (p i : ℕ) → countAt (dispatcherAt d calls p) i < ceiling → countAt (dispatcherAt d calls p) i ≡ times i (servings d (take p calls))
+  -- while the six add up to less than the ceiling, their sum is what the old count would have shown
+  pub together : (p : ℕ) → total (dispatcherAt d calls p) < ceiling → total (dispatcherAt d calls p) ≡ oldCountAfter d 0 (take p calls)
+
 -- ---- the claim
 
 pub record DispatcherRun (d : Dispatcher) (calls : List Call) : Type 0 where
-  -- all this, at every place p of the run
+  -- all that `AtEach` says, at every place p of the run
   pub at-each : (p : ℕ) → AtEach (dispatcherAt d calls p)
   -- a dryer whose search is accepted and unfinished waits for at most five served answers before its own turn
   pub waiting : (p n i : ℕ) → i < dryers → unfinished (searchAt (dispatcherAt d calls p) i) ≡ true → among i (servingsIn d calls p n) ≡ false
       → Waits d calls p n i
-  pub counts-at-each : (p : ℕ) → CountsAtEach (dispatcherAt d calls p)
-  -- a dryer's count is that of the answers served there while below the ceiling, and remains as it is once that is reached or passed
-  pub served : (p i : ℕ) → countAt (dispatcherAt d calls p) i ≡ countAfter (countAt d i) (times i (servings d (take p calls)))
-  -- the old count, had it begun as the sum of the six up to the ceiling, is their sum up to the ceiling
-  pub old-count : (p : ℕ) → oldCountAfter d (min (total d) ceiling) (take p calls) ≡ min (total (dispatcherAt d calls p)) ceiling
   -- the search at a dryer is that of its own accepted calls alone
   pub apart : (p i : ℕ) → searchAt (dispatcherAt d calls p) i ≡ loneAfter (searchAt d i) (ownCalls d i (take p calls))
   -- once an opening has been accepted for a dryer, its search keeps demand 3 with that opening and the answers accepted since
@@ -106,18 +115,20 @@ pub record DispatcherRun (d : Dispatcher) (calls : List Call) : Type 0 where
   pub independent : (p p' i : ℕ) (d' : Dispatcher) (calls' : List Call) → length (d' .searches) ≡ dryers
       → searchAt d i ≡ searchAt d' i → ownCalls d i (take p calls) ≡ ownCalls d' i (take p' calls')
       → dryerReport (dispatcherAt d calls p) i ≡ dryerReport (dispatcherAt d' calls' p') i
+  -- all that `CountsAtEach` says, at every place p of the run
+  pub counts-at-each : (p : ℕ) → CountsAtEach (dispatcherAt d calls p)
+  -- and all that `FromZero` says, from a fresh dispatcher on
+  pub from-zero : d .counts ≡ freshDispatcher .counts → FromZero d calls
+  -- whatever it was at first, a dryer's count grows with the answers served there while below the ceiling, and remains as it is once that is
+  -- reached or passed
+  pub served : (p i : ℕ) → countAt (dispatcherAt d calls p) i ≡ countAfter (countAt d i) (times i (servings d (take p calls)))
+  -- the old count, had it begun as the sum of the six up to the ceiling, would be their sum up to the ceiling
+  pub old-count : (p : ℕ) → oldCountAfter d (min (total d) ceiling) (take p calls) ≡ min (total (dispatcherAt d calls p)) ceiling
+  -- the counts alter nothing else: with any others in their place the calls report the same, and leave the same searches and mark
+  pub alike-reports : (cs : List ℕ) → reportsOf (withCounts d cs) calls ≡ reportsOf d calls
+  pub alike : (p : ℕ) (cs : List ℕ) → SameButCounts (dispatcherAt (withCounts d cs) calls p) (dispatcherAt d calls p)
 
 -- for every dispatcher, which has six searches and six counts, and every list of calls
 abbrev pub EveryDispatcherRun : Type 0
 EveryDispatcherRun =
     (d : Dispatcher) → length (d .searches) ≡ dryers → length (d .counts) ≡ dryers → (calls : List Call) → DispatcherRun d calls
-
--- ---- from a fresh dispatcher, all six counts 0
-
-pub record FromFresh (calls : List Call) : Type 0 where
-  -- while below the ceiling, a dryer's count is the number of answers served there
-  pub each : (p i : ℕ) → countAt (dispatcherAt freshDispatcher calls p) i < ceiling
-      → countAt (dispatcherAt freshDispatcher calls p) i ≡ times i (servings freshDispatcher (take p calls))
-  -- while the six add up to less than the ceiling, their sum is what the old count would have shown
-  pub together : (p : ℕ) → total (dispatcherAt freshDispatcher calls p) < ceiling
-      → total (dispatcherAt freshDispatcher calls p) ≡ oldCountAfter freshDispatcher 0 (take p calls)

@@ -17,11 +17,12 @@ use Rattle.dispatching.specs.declared.Dispatcher.{Dispatcher}
 use Rattle.dispatching.specs.declared.Turn.{Turn}
 use Rattle.dispatching.specs.Dispatching.{dryers, noSuchDryer, searchAt, unfinished, turnOf, dryerReport}
 use Rattle.dispatching.specs.Calls.{Call, dispatcherAfter, dispatcherAt, servings, servingsIn, among, loneAfter, none, since, historyAt}
-use Rattle.dispatching.specs.Run.{Waits, Kept, AtEach, CountsAtEach, EveryDispatcherRun, FromFresh}
+use Rattle.dispatching.specs.Run.{Waits, Kept, AtEach, CountsAtEach, EveryDispatcherRun}
 use Rattle.dispatching.specs.DispatchingLaws.{queued-somewhere, next-turn, turn-first, turn-none, due-report}
 use Rattle.dispatching.specs.RunLaws.{after-append, take-more, six-calls, refusal-keeps, served-in-turn, unserved-mark, Nearer, after-calls}
 use Rattle.dispatching.specs.RunLaws.{others-keep, own-calls}
-use Rattle.dispatching.specs.CountLaws.{others-count, uncleared, one-more, six-counts-after, count-calls, old-calls, fresh-count, fresh-sum}
+use Rattle.dispatching.specs.CountLaws.{others-count, uncleared, one-more, six-counts-after, count-calls, old-calls}
+use Rattle.dispatching.specs.CountLaws.{beside-reports, beside-calls, count-from-zero, sum-from-zero}
 use Rattle.dispatching.specs.HistoryLaws.{call-told, Holds, holds-calls, booked-kept, blank-stays}
 
 -- ---- the one that waits
@@ -104,16 +105,20 @@ run d six six-counts calls =
     record {
       at-each = λ p. at-each (dispatcherAt d calls p) (six-calls d six (take p calls));
       waiting = λ p n i. waits d calls p n i;
-      counts-at-each = λ p. counts-at-each (dispatcherAt d calls p) (six-counts-after d six-counts (take p calls));
-      served = λ p i. count-calls d six-counts i (take p calls);
-      old-count = λ p. old-calls d six-counts (take p calls);
       apart = λ p i. own-calls d six i (take p calls);
       kept = λ p i o answers. keeps d six calls p i o answers;
       none-yet = λ p i. no-search d six calls p i;
       independent = λ p p' i d' calls' six' e f.
           ap (λ (s : Search). cond (not (ltb i dryers)) (Report.Refused noSuchDryer 0) (heldReport s))
           (own-calls d six i (take p calls) ∙ ap₂ loneAfter e f ∙ sym (own-calls d' six' i (take p' calls')));
+      counts-at-each = λ p. counts-at-each (dispatcherAt d calls p) (six-counts-after d six-counts (take p calls));
+      from-zero = λ zeros.
+          record {
+            each = λ p. count-from-zero d six-counts zeros (take p calls);
+            together = λ p. sum-from-zero d six-counts zeros (take p calls);
+          };
+      served = λ p i. count-calls d six-counts i (take p calls);
+      old-count = λ p. old-calls d six-counts (take p calls);
+      alike-reports = λ cs. beside-reports d cs calls;
+      alike = λ p cs. beside-calls d cs (take p calls);
     }
-
-pub from-fresh : (calls : List Call) → FromFresh calls
-from-fresh calls = record { each = λ p i. fresh-count i (take p calls); together = λ p. fresh-sum (take p calls) }
