@@ -35,7 +35,9 @@ extern "C" {
 
 /* The version of this interface. An archive of the same version answers the same number to busdekker_version(). Since version 2
  * busdekker_sheet takes fields between double quotes and a last record without CR LF. Since version 3 there is busdekker_write. Since version 4
- * there is the dispatcher. Since version 5 it has a count for each dryer, in place of one for all, and 20 bytes more. */
+ * there is the dispatcher. Since version 5 it has a count for each dryer, in place of one for all, and 20 bytes more: a host that kept
+ * one of version 4 copies its searches and its mark into a fresh one; its count stood where counts[0] stands, and does not tell whose the
+ * answers were. */
 #define BUSDEKKER_VERSION 5
 
 /* The answers that a search keeps. */

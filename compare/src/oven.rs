@@ -69,7 +69,7 @@ impl Borders {
     /// One more answer served at this dryer, and the counts before it.
     fn count(&mut self, dryer: usize, counts: &[u64; DRYERS]) {
         let sum: u64 = counts.iter().sum();
-        let all_below = counts.iter().all(|&count| count < CEILING);
+        let all_below = counts.iter().all(|&count| count + 1 < CEILING);
         self.reached += u64::from(counts[dryer] + 1 == CEILING);
         self.stayed += u64::from(counts[dryer] >= CEILING);
         self.sum_reached += u64::from(sum + 1 == CEILING);
@@ -262,7 +262,6 @@ impl Morning {
             agree(before, self.library, input)?;
         } else {
             agree(reports.1, self.accepted(call, rng, told), input)?;
-            self.others_stay(&before.counts, call, input)?;
         }
         self.told_agrees(told, input)?;
         self.claims_hold(input)
@@ -301,23 +300,6 @@ impl Morning {
         })
     }
 
-    /// An accepted call moves no count but that of the dryer that it answers for: an answer none of
-    /// the five others, and an opening none of the six.
-    fn others_stay(
-        &self,
-        before: &[u32; DRYERS],
-        call: Call,
-        input: impl Fn() -> String,
-    ) -> Checked {
-        let mut expected = *before;
-        if let Call::Enter(dryer, _) = call {
-            expected[dryer as usize] = self.library.counts[dryer as usize];
-        }
-        agree(expected, self.library.counts, || {
-            input() + "\nthe counts that the call has nothing to do with"
-        })
-    }
-
     /// The turn and the reports of dryers 0 to 6 are the model's, and to ask for them changes
     /// nothing.
     fn told_agrees(&mut self, told: &mut Told, input: impl Fn() -> String) -> Checked {
@@ -340,15 +322,15 @@ impl Morning {
         agree(self.model, *black_box(&self.library), input)
     }
 
-    /// Each count is that of the answers served at its dryer, and the old count is the sum of the
-    /// six, up to the ceiling.
+    /// The old count is the sum of the six, up to the ceiling, and each count is that of the answers
+    /// served at its dryer.
     fn counts_hold(&self, input: impl Fn() -> String) -> Checked {
         let counts = self.library.counts;
-        agree(self.counted(), counts.map(u64::from), || {
-            input() + "\nthe counts, from the answers served at each dryer"
-        })?;
         agree(self.old_count, CEILING.min(sum(&counts)), || {
             input() + "\nthe old count, from the sum of the six"
+        })?;
+        agree(self.counted(), counts.map(u64::from), || {
+            input() + "\nthe counts, from the answers served at each dryer"
         })
     }
 

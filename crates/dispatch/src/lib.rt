@@ -49,10 +49,10 @@ fn served(d: Dispatcher, dryer: u32, search: Search) -> Dispatcher
     requires { ⌜ dryer < dryers ⌝ }
     ensures { λ r. ⌜ r ≡ servedAt d dryer search ⌝ }
 {
-    let at = dryer as usize;
+    let own = dryer as usize;
     let mut next = with_search(d, dryer, search);
     next.last = dryer;
-    next.counts[at] = one_more(d.counts[at]);
+    next.counts[own] = one_more(d.counts[own]);
     next
 }
 
@@ -89,9 +89,9 @@ pub fn fresh() -> Dispatcher
 {
     let none = Search::blank();
     Dispatcher {
-        searches: [none; dispatching::SEARCHES],
+        searches: [none; dispatching::ALL_DRYERS],
         last: dispatching::DRYERS,
-        counts: [0; dispatching::SEARCHES],
+        counts: [0; dispatching::ALL_DRYERS],
     }
 }
 

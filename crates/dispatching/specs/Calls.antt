@@ -79,9 +79,9 @@ among i (j ∷ js) = eqb j i || among i js
 -- ---- the counts
 
 -- how often a dryer is among the served
-abbrev pub times : ℕ → List ℕ → ℕ
-times i [] = 0
-times i (j ∷ js) = cond (eqb j i) 1 0 + times i js
+abbrev pub howOften : ℕ → List ℕ → ℕ
+howOften i [] = 0
+howOften i (j ∷ js) = cond (eqb j i) 1 0 + howOften i js
 
 -- a count after n more served answers: it goes up to the ceiling, and one that is there or past it remains
 abbrev pub countAfter : ℕ → ℕ → ℕ
@@ -92,11 +92,7 @@ abbrev pub sumOf : List ℕ → ℕ
 sumOf [] = 0
 sumOf (c ∷ cs) = c + sumOf cs
 
--- the six together
-abbrev pub total : Dispatcher → ℕ
-total d = sumOf (d .counts)
-
--- the dispatcher with others in place of its counts
+-- a dispatcher with others in place of its counts
 abbrev pub withCounts : Dispatcher → List ℕ → Dispatcher
 withCounts d cs = record { searches = d .searches; last = d .last; counts = cs }
 

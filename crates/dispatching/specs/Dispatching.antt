@@ -49,7 +49,7 @@ freshDispatcher = record { searches = replicate dryers blank; last = dryers; cou
 abbrev pub searchAt : Dispatcher → ℕ → Search
 searchAt d i = getD (d .searches) i blank
 
--- how many answers have been served at a dryer
+-- the count of a dryer
 abbrev pub countAt : Dispatcher → ℕ → ℕ
 countAt d i = getD (d .counts) i 0
 

@@ -15,7 +15,7 @@ use Rattle.dispatching.specs.declared.Dispatcher.{Dispatcher}
 use Rattle.dispatching.specs.declared.Turn.{Turn}
 use Rattle.dispatching.specs.Dispatching.{freshDispatcher, searchAt, unfinished, firstFrom, turnOf, raised, settledBy, openingAt}
 use Rattle.dispatching.specs.Dispatching.{answerAt, dryerReport}
-use Rattle.dispatching.specs.Calls.{Call, opening, answer, callOf, dispatcherAfter, reportsOf, servings, servingsIn, total, withCounts}
+use Rattle.dispatching.specs.Calls.{Call, opening, answer, callOf, dispatcherAfter, reportsOf, servings, servingsIn, sumOf, withCounts}
 use Rattle.dispatching.specs.Calls.{oldCountAfter, ownCalls, since, historyAt}
 
 -- ---- openings, dispatchers and runs
@@ -104,12 +104,12 @@ later =
 abbrev junk : Dispatcher
 junk = record { searches = replicate 6 (record { opening = wide; count = 73; slots = replicate 72 (pos 5) }); last = 7; counts = replicate 6 9 }
 
--- counts of which one is at the ceiling, and counts that only together are
-abbrev one-full : List ℕ
-one-full = 4 ∷ 1000000000 ∷ 999999999 ∷ 0 ∷ 7 ∷ 4294967295 ∷ []
+-- counts of which one is just below the ceiling, one at it and one past it; and counts far below it that add up to one less
+abbrev around-ceiling : List ℕ
+around-ceiling = 4 ∷ 1000000000 ∷ 999999999 ∷ 0 ∷ 7 ∷ 4294967295 ∷ []
 
-abbrev full-together : List ℕ
-full-together = 4 ∷ 500000000 ∷ 499999988 ∷ 0 ∷ 7 ∷ 0 ∷ []
+abbrev nearly-together : List ℕ
+nearly-together = 4 ∷ 500000000 ∷ 499999988 ∷ 0 ∷ 7 ∷ 0 ∷ []
 
 -- ---- what comes of them
 
@@ -155,13 +155,13 @@ record Worked : Type 0 where
   junk-reports : dryerReport junk 2 ∷ reportsOf junk (first 2 ∷ opening 2 wide ∷ first 2 ∷ []) ≡ refuse 9 0 ∷ refuse 15 0 ∷ next 0 0 ∷ next 100 1 ∷ []
   -- ---- the counts at the ceiling: each has its own
   ceilings : map raised (0 ∷ 999999999 ∷ 1000000000 ∷ 4294967295 ∷ []) ≡ 1 ∷ 1000000000 ∷ 1000000000 ∷ 4294967295 ∷ []
-  one-at-ceiling : dispatcherAfter (withCounts three one-full) (first 1 ∷ first 2 ∷ []) .counts
+  one-at-ceiling : dispatcherAfter (withCounts three around-ceiling) (first 1 ∷ first 2 ∷ []) .counts
       ≡ 4 ∷ 1000000000 ∷ 1000000000 ∷ 0 ∷ 7 ∷ 4294967295 ∷ []
   -- together they pass it, where the old count remains
-  passed-together : dispatcherAfter (withCounts three full-together) (first 1 ∷ first 2 ∷ []) .counts ≡ 4 ∷ 500000001 ∷ 499999989 ∷ 0 ∷ 7 ∷ 0 ∷ []
-  sums : map (λ calls. total (dispatcherAfter (withCounts three full-together) calls)) ([] ∷ (first 1 ∷ []) ∷ (first 1 ∷ first 2 ∷ []) ∷ [])
+  passed-together : dispatcherAfter (withCounts three nearly-together) (first 1 ∷ first 2 ∷ []) .counts ≡ 4 ∷ 500000001 ∷ 499999989 ∷ 0 ∷ 7 ∷ 0 ∷ []
+  sums : map (λ calls. sumOf (dispatcherAfter (withCounts three nearly-together) calls .counts)) ([] ∷ (first 1 ∷ []) ∷ (first 1 ∷ first 2 ∷ []) ∷ [])
       ≡ 999999999 ∷ 1000000000 ∷ 1000000001 ∷ []
-  old-counts : map (oldCountAfter (withCounts three full-together) 999999999) ([] ∷ (first 1 ∷ []) ∷ (first 1 ∷ first 2 ∷ []) ∷ [])
+  old-counts : map (oldCountAfter (withCounts three nearly-together) 999999999) ([] ∷ (first 1 ∷ []) ∷ (first 1 ∷ first 2 ∷ []) ∷ [])
       ≡ 999999999 ∷ 1000000000 ∷ 1000000000 ∷ []
 
 worked : Worked

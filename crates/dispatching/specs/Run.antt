@@ -21,7 +21,7 @@ use Rattle.dispatching.specs.declared.Turn.{Turn}
 use Rattle.dispatching.specs.Dispatching.{dryers, ceiling, freshDispatcher, searchAt, countAt, unfinished, startAfter, turnOf}
 use Rattle.dispatching.specs.Dispatching.{raised, dryerReport}
 use Rattle.dispatching.specs.Calls.{Call, opening, callOf, dryerOf, reportsOf, dispatcherAt, servedBy, servings, servingsIn, among}
-use Rattle.dispatching.specs.Calls.{times, countAfter, total, withCounts, oldCountAfter}
+use Rattle.dispatching.specs.Calls.{howOften, countAfter, sumOf, withCounts, oldCountAfter}
 use Rattle.dispatching.specs.Calls.{ownCalls, loneOf, loneAfter, Due, none, since, historyAt}
 
 -- ---- words of the claim
@@ -83,7 +83,7 @@ pub record CountsAtEach (d : Dispatcher) : Type 0 where
   -- whoever a call serves has one more, up to the ceiling
   pub one-more : (i : ℕ) (c : Call) → servedBy d c ≡ i ∷ [] → countAt (callOf d c .dispatcher) i ≡ raised (countAt d i)
   -- one crew's answers never move another's count
-  pub others : (i : ℕ) (c : Call) → i ≢ dryerOf c → countAt (callOf d c .dispatcher) i ≡ countAt d i
+  pub other-counts : (i : ℕ) (c : Call) → i ≢ dryerOf c → countAt (callOf d c .dispatcher) i ≡ countAt d i
   -- an opening does not clear it
   pub uncleared : (i : ℕ) (o : Opening) → callOf d (opening i o) .dispatcher .counts ≡ d .counts
 
@@ -91,9 +91,9 @@ pub record CountsAtEach (d : Dispatcher) : Type 0 where
 
 pub record FromZero (d : Dispatcher) (calls : List Call) : Type 0 where
   -- while below the ceiling, a dryer's count is the number of answers served there
-  pub each : (p i : ℕ) → countAt (dispatcherAt d calls p) i < ceiling → countAt (dispatcherAt d calls p) i ≡ times i (servings d (take p calls))
+  pub each : (p i : ℕ) → countAt (dispatcherAt d calls p) i < ceiling → countAt (dispatcherAt d calls p) i ≡ howOften i (servings d (take p calls))
   -- while the six add up to less than the ceiling, their sum is what the old count would have shown
-  pub together : (p : ℕ) → total (dispatcherAt d calls p) < ceiling → total (dispatcherAt d calls p) ≡ oldCountAfter d 0 (take p calls)
+  pub together : (p : ℕ) → sumOf (dispatcherAt d calls p .counts) < ceiling → sumOf (dispatcherAt d calls p .counts) ≡ oldCountAfter d 0 (take p calls)
 
 -- ---- the claim
 
@@ -117,13 +117,15 @@ pub record DispatcherRun (d : Dispatcher) (calls : List Call) : Type 0 where
       → dryerReport (dispatcherAt d calls p) i ≡ dryerReport (dispatcherAt d' calls' p') i
   -- all that `CountsAtEach` says, at every place p of the run
   pub counts-at-each : (p : ℕ) → CountsAtEach (dispatcherAt d calls p)
-  -- and all that `FromZero` says, from a fresh dispatcher on
+  -- all that `FromZero` says, where the counts at first are those of a fresh dispatcher
   pub from-zero : d .counts ≡ freshDispatcher .counts → FromZero d calls
-  -- whatever it was at first, a dryer's count grows with the answers served there while below the ceiling, and remains as it is once that is
+  -- whatever it is at first, a dryer's count grows with the answers served there while below the ceiling, and remains as it is once that is
   -- reached or passed
-  pub served : (p i : ℕ) → countAt (dispatcherAt d calls p) i ≡ countAfter (countAt d i) (times i (servings d (take p calls)))
-  -- the old count, had it begun as the sum of the six up to the ceiling, would be their sum up to the ceiling
-  pub old-count : (p : ℕ) → oldCountAfter d (min (total d) ceiling) (take p calls) ≡ min (total (dispatcherAt d calls p)) ceiling
+  pub served : (p i : ℕ) → countAt (dispatcherAt d calls p) i ≡ countAfter (countAt d i) (howOften i (servings d (take p calls)))
+  -- so does the old count with the answers served at whichever dryer
+  pub old-served : (p n : ℕ) → oldCountAfter d n (take p calls) ≡ countAfter n (length (servings d (take p calls)))
+  -- had it begun as the sum of the six up to the ceiling, it would be their sum up to the ceiling
+  pub old-count : (p : ℕ) → oldCountAfter d (min (sumOf (d .counts)) ceiling) (take p calls) ≡ min (sumOf (dispatcherAt d calls p .counts)) ceiling
   -- the counts alter nothing else: with any others in their place the calls report the same, and leave the same searches and mark
   pub alike-reports : (cs : List ℕ) → reportsOf (withCounts d cs) calls ≡ reportsOf d calls
   pub alike : (p : ℕ) (cs : List ℕ) → SameButCounts (dispatcherAt (withCounts d cs) calls p) (dispatcherAt d calls p)

@@ -21,8 +21,8 @@ use Rattle.dispatching.specs.Run.{Waits, Kept, AtEach, CountsAtEach, Eve
 use Rattle.dispatching.specs.DispatchingLaws.{queued-somewhere, next-turn, turn-first, turn-none, due-report}
 use Rattle.dispatching.specs.RunLaws.{after-append, take-more, six-calls, refusal-keeps, served-in-turn, unserved-mark, Nearer, after-calls}
 use Rattle.dispatching.specs.RunLaws.{others-keep, own-calls}
-use Rattle.dispatching.specs.CountLaws.{others-count, uncleared, one-more, six-counts-after, count-calls, old-calls}
-use Rattle.dispatching.specs.CountLaws.{beside-reports, beside-calls, count-from-zero, sum-from-zero}
+use Rattle.dispatching.specs.CountLaws.{other-counts, uncleared, one-more, six-counts-after, count-calls, old-calls, old-is-sum}
+use Rattle.dispatching.specs.CountLaws.{alike-reports, alike-calls, count-from-zero, sum-from-zero}
 use Rattle.dispatching.specs.HistoryLaws.{call-told, Holds, holds-calls, booked-kept, blank-stays}
 
 -- ---- the one that waits
@@ -97,7 +97,7 @@ at-each d six =
     }
 
 counts-at-each : (d : Dispatcher) → length (d .counts) ≡ dryers → CountsAtEach d
-counts-at-each d six = record { one-more = one-more d six; others = λ i c. others-count d c i; uncleared = uncleared d }
+counts-at-each d six = record { one-more = one-more d six; other-counts = λ i c. other-counts d c i; uncleared = uncleared d }
 
 pub run : EveryDispatcherRun
 unfolding dryerReport
@@ -118,7 +118,8 @@ run d six six-counts calls =
             together = λ p. sum-from-zero d six-counts zeros (take p calls);
           };
       served = λ p i. count-calls d six-counts i (take p calls);
-      old-count = λ p. old-calls d six-counts (take p calls);
-      alike-reports = λ cs. beside-reports d cs calls;
-      alike = λ p cs. beside-calls d cs (take p calls);
+      old-served = λ p n. old-calls d n (take p calls);
+      old-count = λ p. old-is-sum d six-counts (take p calls);
+      alike-reports = λ cs. alike-reports d cs calls;
+      alike = λ p cs. alike-calls d cs (take p calls);
     }

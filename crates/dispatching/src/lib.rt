@@ -2,10 +2,10 @@
 use held::Search;
 use rules::Report;
 
-// How many dryers share the oven: as a number, and as the length of the arrays of their searches and counts.
+// How many dryers share the oven: as a number, and as the length of an array with a place for each.
 pub const DRYERS: u32 = 6;
 
-pub const SEARCHES: usize = 6;
+pub const ALL_DRYERS: usize = 6;
 
 // A dryer's count of served answers remains as it is from here on.
 pub const CEILING: u32 = 1000000000;
@@ -14,9 +14,9 @@ pub const CEILING: u32 = 1000000000;
 // every call refuses. A mark that is no dryer reads as none served.
 #[repr(C)]
 pub struct Dispatcher {
-    pub searches: [Search; SEARCHES],
+    pub searches: [Search; ALL_DRYERS],
     pub last: u32,
-    pub counts: [u32; SEARCHES],
+    pub counts: [u32; ALL_DRYERS],
 }
 
 // Whose turn the oven is.

@@ -9,7 +9,7 @@ use borrow.Author.Needs.{needs}
 use Rattle.dispatch.proofs.fresh.Statement.{statement}
 use Rattle.dispatch.proofs.fresh.Tie as tie
 
--- a dispatcher of six such searches and no count
+-- a dispatcher of six such searches and six counts of 0
 abbrev allOf : Search → Dispatcher
 allOf s = record { searches = replicate dryers s; last = dryers; counts = replicate dryers 0 }
 
