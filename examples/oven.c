@@ -96,7 +96,8 @@ static int print_settings(const struct busdekker_dispatcher *dispatcher, uint32_
     return 1;
 }
 
-/* Says how many runs of the oven were served for each dryer, whose crew pays for them, and in all. */
+/* Says how many runs of the oven were served for each dryer, whose crew pays for them, and in all. A value that is refused is not counted, only
+ * the one that is then taken: dryer 2 was asked twice for one. */
 static void print_oven_runs(const struct busdekker_dispatcher *dispatcher) {
     uint64_t sum = 0;
     for (uint32_t dryer = 0; dryer < BUSDEKKER_DRYERS; dryer++) {

@@ -131,8 +131,9 @@ struct busdekker_search {
 /*
  * A dispatcher that the host holds, for six dryers with one oven: the search of each dryer, the dryer that was last served, and for each dryer
  * the number of answers served there. A dryer without a search holds the blank one, every number 0, whose report is a refusal (3). A mark
- * `last` that is not 0 to 5 reads as none served. Only busdekker_dispatch_open and busdekker_dispatch_enter should write it, its searches too;
- * those may be lent to what reads a search, as &dispatcher.searches[2] to busdekker_write.
+ * `last` that is not 0 to 5 reads as none served. Only busdekker_dispatch_open and busdekker_dispatch_enter should write it, its searches too,
+ * but for the copy from version 4 that stands at BUSDEKKER_VERSION; its searches may be lent to what reads a search, as &dispatcher.searches[2]
+ * to busdekker_write.
  *
  * The oven's turn goes to the next dryer whose search is accepted and unfinished, which is to say that its report is BUSDEKKER_NEXT: counting
  * round from the one after the last served, or from dryer 0 where none was. An accepted answer serves the turn; a refused one leaves it. While
@@ -207,7 +208,8 @@ struct busdekker_answered {
     struct busdekker_search search;
 };
 
-/* The version of the archive's interface: BUSDEKKER_VERSION where header and archive belong together. */
+/* The version of the archive's interface: BUSDEKKER_VERSION where header and archive belong together. Ask for it before any other call: the
+ * structs of another version may have other sizes, and a call would then write past the host's. */
 uint32_t busdekker_version(void);
 
 /* The quotation for an opening, before the first trial. Nothing is read or written but the opening passed. */

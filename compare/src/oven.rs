@@ -69,7 +69,8 @@ impl Borders {
     /// One more answer served at this dryer, and the counts before it.
     fn count(&mut self, dryer: usize, counts: &[u64; DRYERS]) {
         let sum: u64 = counts.iter().sum();
-        let all_below = counts.iter().all(|&count| count + 1 < CEILING);
+        let after = |of: usize| counts[of] + u64::from(of == dryer);
+        let all_below = (0..DRYERS).all(|of| after(of) < CEILING);
         self.reached += u64::from(counts[dryer] + 1 == CEILING);
         self.stayed += u64::from(counts[dryer] >= CEILING);
         self.sum_reached += u64::from(sum + 1 == CEILING);

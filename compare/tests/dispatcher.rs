@@ -351,10 +351,9 @@ fn sum_past_the_ceiling() {
             calls.serves(&mut dispatcher, &[dryer]);
             expected[dryer as usize] += 1;
             old_count = old_count_after(old_count);
-            assert_eq!(dispatcher.counts, expected);
             assert_eq!(old_count, CEILING.min(sum(&dispatcher.counts)));
+            assert_eq!(dispatcher.counts, expected);
         }
-        assert_eq!(sum(&dispatcher.counts), 1_000_000_004);
         assert_eq!(old_count, 1_000_000_000);
     }
 }

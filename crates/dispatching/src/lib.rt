@@ -10,8 +10,8 @@ pub const ALL_DRYERS: usize = 6;
 // A dryer's count of served answers remains as it is from here on.
 pub const CEILING: u32 = 1000000000;
 
-// A search for each dryer, the dryer served last, and how many answers have been served at each. A dryer with no search holds a blank, which
-// every call refuses. A mark that is no dryer reads as none served.
+// A search for each dryer, the dryer served last, and how many answers have been served at each. A dryer with no search holds a blank, whose
+// report is a refusal: it never has the turn, and an opening takes its place. A mark that is no dryer reads as none served.
 #[repr(C)]
 pub struct Dispatcher {
     pub searches: [Search; ALL_DRYERS],
