@@ -162,9 +162,9 @@ due-dryer d (answer i a) due = due .0
 pub start-bound : (last : ℕ) → startAfter last ≤ dryers
 start-bound last = go (ltb last dryers) refl
   where
-    go : (b : Bool) → ltb last dryers ≡ b → cond b (last + 1) 0 ≤ dryers
-    go true e = omega (arith, ltb-true last dryers e)
-    go false e = omega arith
+    go : (b : Bool) → ltb last dryers ≡ b → startAfter last ≤ dryers
+    go true e = simp e (omega (arith, ltb-true last dryers e))
+    go false e = simp e (omega arith)
 
 -- the turn goes to the first that goes on among those still to be asked
 pub record Asking (d : Dispatcher) (at left : ℕ) : Type 0 where

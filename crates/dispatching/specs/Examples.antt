@@ -126,6 +126,8 @@ record Worked : Type 0 where
   -- a dryer alone has every turn, its own mark or none
   alone : turnOf (marked (dispatcherAfter freshDispatcher (opening 3 wide ∷ [])) 3) ≡ D 3
   alone-at-first : turnOf (dispatcherAfter freshDispatcher (opening 0 wide ∷ [])) ≡ D 0
+  -- before any is served, dryer 0 comes before all others
+  first-of-all : turnOf (dispatcherAfter freshDispatcher (opening 3 wide ∷ opening 0 wide ∷ opening 1 wide ∷ [])) ≡ D 0
   -- ---- a run: the refusals in their order, a refused answer leaves the turn, an opening takes no turn away
   run-reports : reportsOf three calls
       ≡ refuse 15 0 ∷ refuse 6 0 ∷ next 100 1 ∷ refuse 15 0 ∷ refuse 16 0 ∷ refuse 3 0 ∷ refuse 14 0 ∷ refuse 14 0 ∷ next 100 1 ∷ next 0 0 ∷ next 100 1
@@ -177,6 +179,7 @@ worked =
       marks = refl;
       alone = refl;
       alone-at-first = refl;
+      first-of-all = refl;
       run-reports = refl;
       run-turns = refl;
       run-servings = refl;
