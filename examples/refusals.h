@@ -15,15 +15,15 @@ static const char *refusal_in_words(uint32_t number) {
     case BUSDEKKER_TEXT_TOO_LONG:
         return "the text is longer than 4,096 bytes";
     case BUSDEKKER_TOO_MANY_ANSWERS:
-        return "it is a 73rd answer";
+        return "it is a 78th answer";
     case BUSDEKKER_MALFORMED_RECORD:
         return "the form of the record is wrong";
     case BUSDEKKER_COUNT_ABOVE_SLOTS:
-        return "the search says that it holds more than 72 answers";
+        return "the search says that it holds more than 77 answers";
     case BUSDEKKER_UNKNOWN_METHOD:
         return "the method is not 0, 1 or 2";
     case BUSDEKKER_END_OUT_OF_RANGE:
-        return "an end is not from 0.00 to 200.00 degrees";
+        return "an end is not from 0.00 to 600.00 degrees";
     case BUSDEKKER_ENDS_EQUAL:
         return "the two ends are equal";
     case BUSDEKKER_TOLERANCE_OUT_OF_RANGE:

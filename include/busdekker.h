@@ -4,7 +4,7 @@
  *
  * The archive libbusdekker.a is for x86-64 Linux. It needs memcpy and memset of the C library, and nothing else.
  *
- * Numbers. A point is a setting in hundredths of a degree Celsius, 0 to 20,000. A value is moisture minus target in hundredths of a
+ * Numbers. A point is a setting in hundredths of a degree Celsius, 0 to 60,000. A value is moisture minus target in hundredths of a
  * percentage point, -10,000 to 10,000; 0 is on target. The tolerance is 1 to 5,000, in units of a point. Every number may be given: what is
  * out of range is refused.
  *
@@ -37,17 +37,20 @@ extern "C" {
  * busdekker_sheet takes fields between double quotes and a last record without CR LF. Since version 3 there is busdekker_write. Since version 4
  * there is the dispatcher. Since version 5 it has a count for each dryer, in place of one for all, and 20 bytes more: a host that kept
  * one of version 4 copies its searches and its mark into a fresh one; its count stood where counts[0] stands, and does not tell whose the
- * answers were. */
-#define BUSDEKKER_VERSION 5
+ * answers were. Since version 6 a point may be up to 60,000, where it was 20,000, and a search has 77 slots, where it had 72: 20 bytes more,
+ * and 120 in a dispatcher. A host that kept a search copies its opening, its count and its 72 slots, with 0 in the other five; of a dispatcher,
+ * each search so, the mark and the counts. What was accepted has the same report. What was refused may have another: an end from 20,001 to
+ * 60,000 is no longer out of range (2), nor is a count from 73 to 77 too high (9), and the search is then judged by the rest that it holds. */
+#define BUSDEKKER_VERSION 6
 
 /* The answers that a search keeps. */
-#define BUSDEKKER_SLOTS 72
+#define BUSDEKKER_SLOTS 77
 
 /* The bytes of the longest sheet. */
 #define BUSDEKKER_LONGEST_SHEET 4096
 
-/* 20 bytes for the opening and 14 for each of 72 answers: a buffer of so many takes the clean sheet of every search. */
-#define BUSDEKKER_LONGEST_CLEAN_SHEET 1028
+/* 1,098 bytes, 20 for the opening and 14 for each answer: a buffer of so many takes the clean sheet of every search. */
+#define BUSDEKKER_LONGEST_CLEAN_SHEET (20 + 14 * BUSDEKKER_SLOTS)
 
 /* The dryers of a dispatcher, which are 0 to 5. */
 #define BUSDEKKER_DRYERS 6
@@ -88,10 +91,10 @@ enum busdekker_refusal {
     /* the whole text */
     BUSDEKKER_TEXT_TOO_LONG = 10, /* longer than 4,096 bytes */
     /* each record in turn */
-    BUSDEKKER_TOO_MANY_ANSWERS = 11, /* it is a 73rd answer record */
+    BUSDEKKER_TOO_MANY_ANSWERS = 11, /* it is a 78th answer record */
     BUSDEKKER_MALFORMED_RECORD = 12, /* its form is wrong, or the first is absent */
     /* the held search */
-    BUSDEKKER_COUNT_ABOVE_SLOTS = 9, /* count above 72 */
+    BUSDEKKER_COUNT_ABOVE_SLOTS = 9, /* count above 77 */
     /* the opening */
     BUSDEKKER_UNKNOWN_METHOD = 1,         /* method not 0, 1 or 2 */
     BUSDEKKER_END_OUT_OF_RANGE = 2,       /* an end out of range */
@@ -121,7 +124,7 @@ struct busdekker_answer {
 };
 
 /* A search that the host holds: its opening, the number of answers taken, and their values in the first slots. The others hold 0. Only
- * busdekker_open and busdekker_enter should write it. */
+ * busdekker_open and busdekker_enter should write it, but for the copy from an older version that stands at BUSDEKKER_VERSION. */
 struct busdekker_search {
     struct busdekker_opening opening;
     uint32_t count;
@@ -132,8 +135,8 @@ struct busdekker_search {
  * A dispatcher that the host holds, for six dryers with one oven: the search of each dryer, the dryer that was last served, and for each dryer
  * the number of answers served there. A dryer without a search holds the blank one, every number 0, whose report is a refusal (3). A mark
  * `last` that is not 0 to 5 reads as none served. Only busdekker_dispatch_open and busdekker_dispatch_enter should write it, its searches too,
- * but for the copy from version 4 that stands at BUSDEKKER_VERSION; its searches may be lent to what reads a search, as &dispatcher.searches[2]
- * to busdekker_write.
+ * but for the copy from an older version that stands at BUSDEKKER_VERSION; its searches may be lent to what reads a search, as
+ * &dispatcher.searches[2] to busdekker_write.
  *
  * The oven's turn goes to the next dryer whose search is accepted and unfinished, which is to say that its report is BUSDEKKER_NEXT: counting
  * round from the one after the last served, or from dryer 0 where none was. An accepted answer serves the turn; a refused one leaves it. While
@@ -216,7 +219,7 @@ uint32_t busdekker_version(void);
 struct busdekker_quotation busdekker_quote(struct busdekker_opening opening);
 
 /*
- * Makes *search a fresh search of the opening: the opening, a count of 0 and 72 slots of 0. What it held before does not matter. The report
+ * Makes *search a fresh search of the opening: the opening, a count of 0 and 77 slots of 0. What it held before does not matter. The report
  * calls for the first end.
  * A refusal (1 to 4) leaves *search as it was: a search on its way goes on as if this call had not been made, and where none was there, none is.
  */
@@ -292,14 +295,14 @@ BUSDEKKER_ASSERT(sizeof(struct busdekker_opening) == 16, "an opening has 16 byte
 BUSDEKKER_ASSERT(offsetof(struct busdekker_opening, first) == 4, "first stands at 4");
 BUSDEKKER_ASSERT(offsetof(struct busdekker_opening, second) == 8, "second stands at 8");
 BUSDEKKER_ASSERT(offsetof(struct busdekker_opening, tolerance) == 12, "tolerance stands at 12");
-BUSDEKKER_ASSERT(sizeof(struct busdekker_search) == 308, "a search has 308 bytes");
+BUSDEKKER_ASSERT(sizeof(struct busdekker_search) == 328, "a search has 328 bytes");
 BUSDEKKER_ASSERT(offsetof(struct busdekker_search, count) == 16, "count stands at 16");
 BUSDEKKER_ASSERT(offsetof(struct busdekker_search, slots) == 20, "slots stand at 20");
 BUSDEKKER_ASSERT(sizeof(struct busdekker_answer) == 8, "an answer has 8 bytes");
 BUSDEKKER_ASSERT(offsetof(struct busdekker_answer, value) == 4, "value stands at 4");
-BUSDEKKER_ASSERT(sizeof(struct busdekker_dispatcher) == 1876, "a dispatcher has 1,876 bytes");
-BUSDEKKER_ASSERT(offsetof(struct busdekker_dispatcher, last) == 1848, "last stands at 1,848");
-BUSDEKKER_ASSERT(offsetof(struct busdekker_dispatcher, counts) == 1852, "counts stand at 1,852");
+BUSDEKKER_ASSERT(sizeof(struct busdekker_dispatcher) == 1996, "a dispatcher has 1,996 bytes");
+BUSDEKKER_ASSERT(offsetof(struct busdekker_dispatcher, last) == 1968, "last stands at 1,968");
+BUSDEKKER_ASSERT(offsetof(struct busdekker_dispatcher, counts) == 1972, "counts stand at 1,972");
 BUSDEKKER_ASSERT(sizeof(struct busdekker_report) == 32, "a report has 32 bytes");
 BUSDEKKER_ASSERT(offsetof(struct busdekker_report, point) == 4, "point stands at 4");
 BUSDEKKER_ASSERT(offsetof(struct busdekker_report, lower) == 8, "lower stands at 8");
@@ -317,7 +320,7 @@ BUSDEKKER_ASSERT(sizeof(struct busdekker_written) == 16, "what is told of a writ
 BUSDEKKER_ASSERT(offsetof(struct busdekker_written, length) == 4, "length stands at 4");
 BUSDEKKER_ASSERT(offsetof(struct busdekker_written, number) == 8, "number stands at 8");
 BUSDEKKER_ASSERT(offsetof(struct busdekker_written, place) == 12, "place stands at 12");
-BUSDEKKER_ASSERT(sizeof(struct busdekker_answered) == 340, "a report and a search have 340 bytes");
+BUSDEKKER_ASSERT(sizeof(struct busdekker_answered) == 360, "a report and a search have 360 bytes");
 BUSDEKKER_ASSERT(offsetof(struct busdekker_answered, search) == 32, "the search stands at 32");
 
 #ifdef __cplusplus

@@ -3,6 +3,74 @@
 #include "busdekker.h"
 
 #include <cstring>
+#include <string>
+
+static_assert(BUSDEKKER_LONGEST_CLEAN_SHEET == 1098, "the longest clean sheet has 1,098 bytes");
+
+// The highest point.
+static const int32_t highest = 60000;
+
+static busdekker_report sheet(const std::string &text) {
+    return busdekker_sheet(reinterpret_cast<const uint8_t *>(text.data()), text.size());
+}
+
+// The highest point is taken as an end, and the one above it refused, by each call that takes an opening. The search stays as it was then.
+static bool limits_of_ends() {
+    const busdekker_opening widest = {BUSDEKKER_R, highest, 0, 1};
+    const busdekker_opening first_above = {BUSDEKKER_R, highest + 1, 0, 1};
+    const busdekker_opening second_above = {BUSDEKKER_R, 0, highest + 1, 1};
+    busdekker_search search;
+    busdekker_dispatcher dispatcher = busdekker_dispatch_fresh();
+    bool same = busdekker_quote(widest).t == 15 && busdekker_quote(widest).most == BUSDEKKER_SLOTS;
+    same = same && busdekker_open(&search, widest).point == highest;
+    same = same && busdekker_values(widest, search.slots, 0).point == highest;
+    same = same && busdekker_dispatch_open(&dispatcher, 0, widest).point == highest;
+    for (const busdekker_opening above : {first_above, second_above}) {
+        same = same && busdekker_quote(above).number == BUSDEKKER_END_OUT_OF_RANGE;
+        same = same && busdekker_open(&search, above).number == BUSDEKKER_END_OUT_OF_RANGE;
+        same = same && busdekker_values(above, search.slots, 0).number == BUSDEKKER_END_OUT_OF_RANGE;
+        same = same && busdekker_dispatch_open(&dispatcher, 1, above).number == BUSDEKKER_END_OUT_OF_RANGE;
+    }
+    return same && busdekker_ask(&search).point == highest;
+}
+
+// A count of all the slots is judged by its answers, of which this search takes two; one more is refused.
+static bool limits_of_counts(busdekker_opening opening) {
+    uint8_t buffer[BUSDEKKER_LONGEST_CLEAN_SHEET];
+    busdekker_search search;
+    bool same = busdekker_open(&search, opening).kind == BUSDEKKER_NEXT;
+    search.slots[0] = -1;
+    search.slots[1] = 1;
+    for (const uint32_t above : {0, 1}) {
+        const uint32_t number = above == 0 ? BUSDEKKER_HAD_STOPPED : BUSDEKKER_COUNT_ABOVE_SLOTS;
+        search.count = BUSDEKKER_SLOTS + above;
+        same = same && busdekker_ask(&search).number == number && busdekker_enter(&search, 0, 0).number == number;
+        same = same && busdekker_entered(search, 0, 0).report.number == number;
+        same = same && busdekker_write(&search, buffer, sizeof buffer).number == number;
+    }
+    return same;
+}
+
+// A sheet may have as many answers as there are slots; of the next one a byte is enough to be refused. The clean sheet of as many answers in
+// the longest spelling has the length that the header says.
+static bool limits_of_sheets() {
+    std::string text = "9,0,0,0\r\n";
+    for (int answers = 0; answers < BUSDEKKER_SLOTS; answers++) {
+        text += "0,0\r\n";
+    }
+    const busdekker_report refused = sheet(text + "0");
+    bool same = sheet(text).number == BUSDEKKER_UNKNOWN_METHOD;
+    same = same && refused.number == BUSDEKKER_TOO_MANY_ANSWERS && refused.place == BUSDEKKER_SLOTS + 2;
+    const busdekker_opening opening = {BUSDEKKER_HOUSE, highest, highest - 1, 5000};
+    const std::string point = std::to_string(highest);
+    const std::string first = "0," + point + "," + std::to_string(highest - 1) + ",5000\r\n", answer = point + ",-10000\r\n";
+    uint8_t buffer[BUSDEKKER_LONGEST_CLEAN_SHEET];
+    busdekker_search search;
+    same = same && busdekker_open(&search, opening).kind == BUSDEKKER_NEXT && busdekker_enter(&search, highest, -10000).kind == BUSDEKKER_NEXT;
+    const busdekker_written written = busdekker_write(&search, buffer, sizeof buffer);
+    same = same && std::string(buffer, buffer + written.length) == first + answer;
+    return same && first.size() + BUSDEKKER_SLOTS * answer.size() == sizeof buffer;
+}
 
 // The calls on a dispatcher: dryers 4 and 1 are opened, 1 has the turn first, and then 4.
 static bool dispatches(busdekker_opening opening, busdekker_opening refused) {
@@ -48,5 +116,6 @@ int main() {
     const busdekker_written written = busdekker_write(&search, buffer, sizeof buffer);
     same = same && written.kind == BUSDEKKER_WRITTEN && written.length == sizeof clean - 1 && std::memcmp(buffer, clean, written.length) == 0;
     same = same && busdekker_write(&search, buffer, written.length - 1).number == BUSDEKKER_BUFFER_TOO_SHORT;
-    return same && dispatches(opening, refused) ? 0 : 1;
+    same = same && dispatches(opening, refused);
+    return same && limits_of_ends() && limits_of_counts(opening) && limits_of_sheets() ? 0 : 1;
 }

@@ -16,6 +16,9 @@
 
 enum { STACK = 1 << 16, PAINT = 0xA5 };
 
+/* The highest point. */
+enum { HIGHEST = 60000 };
+
 static unsigned char stack[STACK];
 static ucontext_t here, there;
 
@@ -178,9 +181,9 @@ static int32_t value_after(uint32_t taken) {
 
 /* Every answer of a long search. */
 static void search_through(int32_t method) {
-    opening = (struct busdekker_opening){method, 0, 20000, 1};
+    opening = (struct busdekker_opening){method, 0, HIGHEST, 1};
     length = 0;
-    write_line("%" PRId32 ",0,20000,%" PRId32 "\r\n", method, 1);
+    write_line("%" PRId32 ",0,%" PRId32 ",1\r\n", method, HIGHEST);
     struct busdekker_report report = busdekker_open(&search, opening);
     while (report.kind == BUSDEKKER_NEXT) {
         point = (int32_t)report.point;
@@ -197,7 +200,7 @@ static void morning_through(void) {
     dispatcher = busdekker_dispatch_fresh();
     measure(on_dispatchers, ON_DISPATCHERS);
     for (dryer = 0; dryer < BUSDEKKER_DRYERS; dryer++) {
-        opening = (struct busdekker_opening){dryer % 2 == 0 ? BUSDEKKER_M : BUSDEKKER_R, 0, 20000 - (int32_t)dryer, 1};
+        opening = (struct busdekker_opening){dryer % 2 == 0 ? BUSDEKKER_M : BUSDEKKER_R, 0, HIGHEST - (int32_t)dryer, 1};
         kinds += busdekker_dispatch_open(&dispatcher, dryer, opening).kind;
     }
     for (dryer = busdekker_dispatch_turn(&dispatcher); dryer != BUSDEKKER_NOBODY; dryer = busdekker_dispatch_turn(&dispatcher)) {
@@ -212,7 +215,7 @@ static void morning_through(void) {
 int main(void) {
     search_through(BUSDEKKER_M);
     search_through(BUSDEKKER_R);
-    opening = (struct busdekker_opening){3, 0, 20000, 1};
+    opening = (struct busdekker_opening){3, 0, HIGHEST, 1};
     measure(on_searches, ON_SEARCHES);
     search.count = BUSDEKKER_SLOTS + 1;
     measure(on_searches, ON_SEARCHES);

@@ -6,6 +6,45 @@ use crate::rng::Rng;
 use crate::types::{Dispatcher, Opening, Search, DRYERS, SLOTS};
 use std::array;
 
+/// The highest point, for all that makes cases; model.rs and plain.rs each have their own.
+pub const HIGHEST: i32 = 60_000;
+
+/// Points in range at a limit: of the range, of the one before request 2026-06, and of 16 bits with
+/// a sign.
+pub const POINTS_AT_LIMITS: [i32; 9] = [
+    0,
+    1,
+    19_999,
+    20_000,
+    20_001,
+    32_767,
+    32_768,
+    HIGHEST - 1,
+    HIGHEST,
+];
+
+/// Points above the range: the first of them, the limits of 16 bits without a sign, and twice the
+/// highest.
+pub const POINTS_ABOVE: [i32; 4] = [HIGHEST + 1, 65_535, 65_536, 2 * HIGHEST];
+
+/// The least count of a held search that is too high.
+pub const COUNT_ABOVE: u32 = SLOTS as u32 + 1;
+
+/// Counts that are too high: the least two, and large ones.
+pub const COUNTS_ABOVE: [u32; 6] = [
+    COUNT_ABOVE,
+    COUNT_ABOVE + 1,
+    100,
+    1 << 16,
+    1 << 31,
+    u32::MAX,
+];
+
+/// The opening whose search may need the most answers: the whole range at the least tolerance.
+pub const fn widest(method: i32) -> Opening {
+    Opening::new(method, 0, HIGHEST, 1)
+}
+
 /// An opening with nothing wrong in it, of every width and every tolerance.
 pub fn accepted_opening(rng: &mut Rng) -> Opening {
     let method = rng.pick(&[0, 1, 1, 2, 2]);
@@ -13,7 +52,7 @@ pub fn accepted_opening(rng: &mut Rng) -> Opening {
     let mut second = first;
     while second == first {
         second = match rng.below(4) {
-            0 => (first + sign(rng) * rng.size()).clamp(0, 20_000),
+            0 => (first + sign(rng) * rng.size()).clamp(0, HIGHEST),
             _ => end(rng),
         };
     }
@@ -29,10 +68,16 @@ pub fn accepted_opening(rng: &mut Rng) -> Opening {
 
 /// An end in range, often at a limit.
 fn end(rng: &mut Rng) -> i32 {
-    match rng.below(4) {
-        0 => rng.pick(&[0, 1, 2, 3, 100, 10_000, 19_999, 20_000]),
-        _ => rng.between(0, 20_000),
+    match rng.below(6) {
+        0 => rng.pick(&POINTS_AT_LIMITS),
+        1 => rng.pick(&[2, 3, 100, 10_000]),
+        _ => point(rng),
     }
+}
+
+/// Any point in range.
+pub fn point(rng: &mut Rng) -> i32 {
+    rng.between(0, HIGHEST)
 }
 
 fn sign(rng: &mut Rng) -> i32 {
@@ -63,8 +108,8 @@ pub fn refused_opening(rng: &mut Rng) -> Opening {
 fn spoil(opening: &mut Opening, rng: &mut Rng) {
     match rng.below(5) {
         0 => opening.method = wrong(&[3, 4, 10], rng),
-        1 => opening.first = wrong(&[20_001, 30_000], rng),
-        2 => opening.second = wrong(&[20_001, 30_000], rng),
+        1 => opening.first = wrong(&POINTS_ABOVE, rng),
+        2 => opening.second = wrong(&POINTS_ABOVE, rng),
         3 => opening.second = opening.first,
         _ => opening.tolerance = wrong(&[0, 5_001], rng),
     }
@@ -229,7 +274,7 @@ pub fn any_list(rng: &mut Rng) -> (Opening, Vec<i32>) {
 /// Makes a list too long, mostly by a few values.
 fn lengthen(values: &mut Vec<i32>, rng: &mut Rng) {
     let more = match rng.below(8) {
-        0 => 73_usize.saturating_sub(values.len()),
+        0 => (SLOTS + 1).saturating_sub(values.len()),
         1 => rng.below(200),
         _ => 1 + rng.below(3),
     };
@@ -246,7 +291,7 @@ pub fn any_search(rng: &mut Rng) -> Search {
     let n = values.len().min(SLOTS);
     search.slots[..n].copy_from_slice(&values[..n]);
     search.count = match rng.below(16) {
-        0 => rng.pick(&[73, 74, 100, 1 << 16, 1 << 31, u32::MAX]),
+        0 => rng.pick(&COUNTS_ABOVE),
         1 => rng.below(SLOTS + 1) as u32,
         2 => SLOTS as u32,
         _ => n as u32,
@@ -326,8 +371,8 @@ pub fn any_point(opening: &Opening, called: i32, rng: &mut Rng) -> i32 {
         1 => opening.second,
         2 => called - 1,
         3 => -called,
-        4 => wrong(&[0, 20_000, 20_001], rng),
-        5 => rng.between(0, 20_000),
+        4 => wrong(&[0, HIGHEST, HIGHEST + 1], rng),
+        5 => point(rng),
         _ => called + 1,
     }
 }

@@ -8,8 +8,8 @@ use crate::types::{Opening, Search, Written, LONGEST_CLEAN_SHEET};
 use crate::{beam, cases, ffi};
 use std::hint::black_box;
 
-/// Searches that hold anything; books that are tried at each stage of their way; and the orders
-/// that the beam keeps, for each of its searches, to be tried so.
+/// Searches that hold anything; books that are tried at each stage of their way; and of the longest
+/// orders that the beam finds, by M and by R, those that are tried so.
 const HELD: usize = 100_000;
 const BOOKS: usize = 10_000;
 const ORDERS: usize = 100;
@@ -31,10 +31,11 @@ pub fn clean_sheets(rng: &mut Rng, tally: &mut Tally) -> Checked {
     }
     let mut longest = 0;
     for method in [1, 2] {
-        let opening = Opening::new(method, 0, 20_000, 1);
-        for order in beam::longest(&opening, ORDERS, rng) {
-            stages_agree(&opening, &order, rng, tally)?;
-            let sheet = model::clean(&Book::of(opening, &order).search());
+        let opening = cases::widest(method);
+        let orders = beam::longest(&opening, beam::WIDE, rng);
+        for order in orders.iter().take(ORDERS) {
+            stages_agree(&opening, order, rng, tally)?;
+            let sheet = model::clean(&Book::of(opening, order).search());
             longest = longest.max(sheet.map_or(0, |text| text.len()));
         }
     }

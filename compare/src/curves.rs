@@ -1,10 +1,9 @@
 //! The work on which methods are compared by the trials that they need: the test functions of Bus and Dekker (1975), section 5, laid on
 //! the dryer's scale, and a made-up dryer's curves.
 
-use crate::rng::Rng;
-
 /// The highest setting. The lowest is 0.
-pub const HIGHEST: i32 = 20_000;
+pub use crate::cases::HIGHEST;
+use crate::rng::Rng;
 
 /// The largest value, above and below 0.
 pub const LARGEST: f64 = 10_000.0;

@@ -12,6 +12,7 @@ pub mod curves;
 pub mod dispatcher;
 #[allow(unsafe_code)]
 pub mod ffi;
+pub mod limits;
 pub mod model;
 pub mod oven;
 pub mod picture;

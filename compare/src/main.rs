@@ -7,6 +7,7 @@
 use compare::cases::{self, Oven};
 use compare::checks::{agree, list_as_sheet, search_as_sheet, Checked, Tally};
 use compare::clean::clean_sheets;
+use compare::limits::limits;
 use compare::model::{self, Book};
 use compare::oven::dispatchers;
 use compare::rng::Rng;
@@ -24,8 +25,7 @@ const SHEETS: usize = 600_000;
 /// The longest of the ends of a sheet that are all tried.
 const ENDING: u32 = 7;
 
-/// The states that the beam keeps, for the widest search and for each of the others.
-const WIDE: usize = 1_500;
+/// The states that the beam keeps for a search that is not the widest, and how many such there are.
 const NARROW: usize = 20;
 const NARROW_SEARCHES: usize = 60;
 
@@ -60,7 +60,7 @@ fn main() -> ExitCode {
 /// All parts in turn, and the number of cases.
 fn compare(rng: &mut Rng) -> Result<u64, String> {
     let mut cases = 0;
-    let parts: [(&str, Part); 9] = [
+    let parts: [(&str, Part); 10] = [
         ("lists of values", lists),
         ("runs of the trial book, from a fresh search", runs),
         ("calls in a row on searches that hold anything", held),
@@ -68,6 +68,7 @@ fn compare(rng: &mut Rng) -> Result<u64, String> {
         ("sheets that end in every short way", every_ending),
         ("orders of values that make searches long", long_orders),
         ("quotes", quotes),
+        ("searches with numbers at and around the limits", limits),
         ("clean sheets, into buffers of many lengths", clean_sheets),
         ("calls on dispatchers, one after the other", dispatchers),
     ];
@@ -158,7 +159,7 @@ fn run_agrees(rng: &mut Rng, tally: &mut Tally) -> Checked {
             None if calls_after_stop == 0 => break,
             None => {
                 calls_after_stop -= 1;
-                (rng.between(0, 20_000), cases::any_value(rng))
+                (cases::point(rng), cases::any_value(rng))
             }
         };
         call_agrees(&mut book, &mut search, (point, value), tally)?;
@@ -344,8 +345,8 @@ fn sheet_agrees(text: &[u8], tally: &mut Tally) -> Checked {
 /// Orders of values that make searches long.
 fn long_orders(rng: &mut Rng, tally: &mut Tally) -> Checked {
     for (name, method) in [("M", 1), ("R", 2)] {
-        let opening = Opening::new(method, 0, 20_000, 1);
-        let orders = beam::longest(&opening, WIDE, rng);
+        let opening = cases::widest(method);
+        let orders = beam::longest(&opening, beam::WIDE, rng);
         orders_agree(&opening, &orders, tally)?;
         branches_agree(&opening, &orders, rng, tally)?;
         let most = model::quote(&opening).most;
@@ -397,8 +398,8 @@ fn branches_agree(
 /// The quote for every distance by each method and many tolerances, and for openings of any kind.
 fn quotes(rng: &mut Rng, tally: &mut Tally) -> Checked {
     let tolerances = [1, 2, 3, 4, 5, 7, 10, 50, 99, 100, 1_000, 4_999, 5_000];
-    for distance in 1..=20_000 {
-        let low = rng.between(0, 20_000 - distance);
+    for distance in 1..=cases::HIGHEST {
+        let low = rng.between(0, cases::HIGHEST - distance);
         for tolerance in tolerances {
             for method in 0..=2 {
                 quote_agrees(&Opening::new(method, low, low + distance, tolerance), tally)?;

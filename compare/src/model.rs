@@ -221,7 +221,7 @@ fn report_of(opening: &Opening, answers: &[Answer]) -> Report {
 
 /// Refusals 1 to 4: the first that applies.
 pub fn refused_opening(opening: &Opening) -> Option<u32> {
-    let end = 0..=20_000;
+    let end = 0..=60_000;
     if ![0, 1, 2].contains(&opening.method) {
         Some(1)
     } else if !end.contains(&opening.first) || !end.contains(&opening.second) {
@@ -520,7 +520,7 @@ fn rows(text: &[u8]) -> Result<Vec<Vec<i32>>, Report> {
     let mut rows = Vec::new();
     for record in records(text) {
         let number = rows.len() + 1;
-        // Record 1 is the opening, so that the 73rd answer record is record 74.
+        // Record 1 is the opening: this is the record of the first answer that has no slot.
         if number == SLOTS + 2 {
             return Err(Report::refuse(11, number as u32));
         }

@@ -216,7 +216,7 @@ impl Morning {
     fn answer(&self, dryer: u32, rng: &mut Rng) -> Answer {
         let crew = self.crews[dryer as usize].as_ref();
         let answer = crew.and_then(|crew| crew.answer(rng));
-        answer.unwrap_or(Answer::new(rng.between(0, 20_000), cases::any_value(rng)))
+        answer.unwrap_or(Answer::new(cases::point(rng), cases::any_value(rng)))
     }
 
     /// A call in which mostly something is wrong: the dryer, its turn, its search, the opening or

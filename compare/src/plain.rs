@@ -6,7 +6,7 @@ use crate::types::{
     LONGEST_CLEAN_SHEET, NOBODY, SLOTS,
 };
 
-const HIGHEST_POINT: i32 = 20_000;
+const HIGHEST_POINT: i32 = 60_000;
 const LARGEST_TOLERANCE: i32 = 5_000;
 const LARGEST_VALUE: i32 = 10_000;
 const LONGEST_TEXT: usize = 4_096;

@@ -4,7 +4,7 @@ use std::fmt;
 use std::mem::{offset_of, size_of};
 
 /// The slots of a held search.
-pub const SLOTS: usize = 72;
+pub const SLOTS: usize = 77;
 
 /// The dryers of a dispatcher.
 pub const DRYERS: usize = 6;
@@ -14,7 +14,7 @@ pub const NOBODY: u32 = 6;
 
 /// The bytes that the clean sheet of every search fits in: 20 for the opening and 14 for each
 /// answer.
-pub const LONGEST_CLEAN_SHEET: usize = 1_028;
+pub const LONGEST_CLEAN_SHEET: usize = 20 + 14 * SLOTS;
 
 /// An opening: method, x0, x1 and τ, each as it was offered.
 #[repr(C)]
@@ -257,14 +257,14 @@ const _: () = {
     assert!(offset_of!(Opening, first) == 4);
     assert!(offset_of!(Opening, second) == 8);
     assert!(offset_of!(Opening, tolerance) == 12);
-    assert!(size_of::<Search>() == 308);
+    assert!(size_of::<Search>() == 328);
     assert!(offset_of!(Search, count) == 16);
     assert!(offset_of!(Search, slots) == 20);
     assert!(size_of::<Answer>() == 8);
     assert!(offset_of!(Answer, value) == 4);
-    assert!(size_of::<Dispatcher>() == 1_876);
-    assert!(offset_of!(Dispatcher, last) == 1_848);
-    assert!(offset_of!(Dispatcher, counts) == 1_852);
+    assert!(size_of::<Dispatcher>() == 1_996);
+    assert!(offset_of!(Dispatcher, last) == 1_968);
+    assert!(offset_of!(Dispatcher, counts) == 1_972);
     assert!(size_of::<Report>() == 32);
     assert!(offset_of!(Report, point) == 4);
     assert!(offset_of!(Report, lower) == 8);
@@ -282,6 +282,6 @@ const _: () = {
     assert!(offset_of!(Written, length) == 4);
     assert!(offset_of!(Written, number) == 8);
     assert!(offset_of!(Written, place) == 12);
-    assert!(size_of::<Answered>() == 340);
+    assert!(size_of::<Answered>() == 360);
     assert!(offset_of!(Answered, search) == 32);
 };

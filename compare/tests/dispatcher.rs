@@ -1,10 +1,11 @@
 //! Worked cases of the dispatcher, tried on the model, on the plain code and on the proved library;
 //! then the model against the plain code on random cases.
 
+use compare::cases::{self, COUNT_ABOVE, HIGHEST};
 use compare::model::Book;
 use compare::rng::Rng;
-use compare::types::{Answer, Dispatcher, Opening, Report, Search, DRYERS, NOBODY};
-use compare::{cases, dispatcher, ffi, plain};
+use compare::types::{Answer, Dispatcher, Opening, Report, Search, DRYERS, NOBODY, SLOTS};
+use compare::{dispatcher, ffi, plain};
 
 const M: Opening = Opening::new(1, 0, 100, 1);
 const R: Opening = Opening::new(2, 0, 100, 1);
@@ -145,8 +146,8 @@ fn openings() {
         expected.searches[4] = Search::fresh(M);
         assert_eq!(dispatcher, expected);
         (dispatcher.last, dispatcher.counts) = (2, [7, 0, 9, 8, 1, u32::MAX]);
-        dispatcher.searches[3].count = 73;
-        dispatcher.searches[3].slots[71] = 5;
+        dispatcher.searches[3].count = COUNT_ABOVE;
+        dispatcher.searches[3].slots[SLOTS - 1] = 5;
         assert_eq!((calls.open)(&mut dispatcher, 3, &R), Report::next(0, 0));
         (expected.last, expected.counts) = (2, [7, 0, 9, 8, 1, u32::MAX]);
         expected.searches[3] = Search::fresh(R);
@@ -210,7 +211,7 @@ fn not_its_turn() {
     for calls in ALL {
         let mut dispatcher = calls.with(&[0, 1]);
         dispatcher.searches[2] = Book::of(SHORT, &[-1, 1]).search();
-        dispatcher.searches[3].count = 73;
+        dispatcher.searches[3].count = COUNT_ABOVE;
         for dryer in 1..6 {
             for answer in [FIRST, Answer::new(99, -50), Answer::new(0, 10_001)] {
                 calls.refuses(&mut dispatcher, dryer, answer, Report::refuse(15, 0));
@@ -229,7 +230,7 @@ fn still_searching() {
         calls.refuses_opening(&mut dispatcher, 0, &REFUSED, 16);
         let stopped = Book::of(SHORT, &[-1, 1]).search();
         let mut junk = Search::fresh(M);
-        junk.count = 73;
+        junk.count = COUNT_ABOVE;
         dispatcher.searches[1] = stopped;
         dispatcher.searches[2] = junk;
         for dryer in 1..4 {
@@ -239,6 +240,25 @@ fn still_searching() {
             calls.refuses_opening(&mut dispatcher, dryer, &R, 16);
         }
         assert_eq!((dispatcher.last, dispatcher.counts), (6, [0; DRYERS]));
+    }
+}
+
+/// The ends of a dryer's search and the answers that it holds have the limits of any search.
+#[test]
+fn limits_of_a_search() {
+    for calls in ALL {
+        let mut dispatcher = (calls.fresh)();
+        calls.refuses_opening(&mut dispatcher, 5, &Opening::new(2, 0, HIGHEST + 1, 1), 2);
+        let report = (calls.open)(&mut dispatcher, 5, &cases::widest(2));
+        assert_eq!(report, Report::next(0, 0));
+        assert_eq!((calls.turn)(&dispatcher), 5);
+        let stopped = Book::of(SHORT, &[-1, 1]).search();
+        for (count, number, place) in [(SLOTS as u32, 5, 2), (COUNT_ABOVE, 9, 0)] {
+            dispatcher.searches[5] = Search { count, ..stopped };
+            let refusal = Report::refuse(number, place);
+            assert_eq!((calls.ask)(&dispatcher, 5), refusal);
+            assert_eq!((calls.turn)(&dispatcher), NOBODY);
+        }
     }
 }
 

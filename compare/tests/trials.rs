@@ -1,7 +1,7 @@
 //! Document 01's worked trials, and those of the requests since, tried on the model, on the plain
 //! code and on the proved library; then the model against the plain code on random cases.
 
-use compare::cases;
+use compare::cases::{self, COUNT_ABOVE, HIGHEST};
 use compare::model::{self, Book};
 use compare::plain;
 use compare::rng::Rng;
@@ -69,13 +69,53 @@ fn trials_refused() {
     trial(Opening::new(3, 0, 100, 1), &[], "refuse,1,0");
     trial(Opening::new(0, 7, 7, 1), &[], "refuse,3,0");
     trial(Opening::new(1, 0, 20_000, 1), &[], "next,0,0");
-    trial(Opening::new(1, 0, 20_001, 1), &[], "refuse,2,0");
+    // Request 2026-06: these stand for document 01's refusal of an end of 20,001.
+    trial(Opening::new(1, 0, 20_001, 1), &[], "next,0,0");
+    trial(Opening::new(1, 0, 60_000, 1), &[], "next,0,0");
+    trial(Opening::new(1, 0, 60_001, 1), &[], "refuse,2,0");
     trial(Opening::new(1, 0, 100, 5_000), &[], "next,0,0");
     trial(Opening::new(1, 0, 100, 5_001), &[], "refuse,4,0");
     trial(Opening::new(1, 0, 100, 0), &[], "refuse,4,0");
     trial(M, &[-10_000], "next,100,1");
     trial(M, &[-10_001], "refuse,7,0");
     trial(M, &[-50, 100, -10, -2, 1, 10_001], "refuse,5,5");
+}
+
+/// Each end alone at and around its limits.
+#[test]
+fn ends_at_the_limits() {
+    for end in cases::POINTS_AT_LIMITS {
+        trial(Opening::new(1, 500, end, 1), &[], "next,500,0");
+        trial(Opening::new(2, end, 500, 1), &[], &format!("next,{end},0"));
+    }
+    let others = [-1, i32::MIN, i32::MAX];
+    for end in cases::POINTS_ABOVE.into_iter().chain(others) {
+        trial(Opening::new(1, 0, end, 1), &[], "refuse,2,0");
+        trial(Opening::new(2, end, 0, 1), &[], "refuse,2,0");
+    }
+    sheet_trial(b"1,0,60001,1\r\n", "refuse,2,1");
+    sheet_trial(b"1,65536,0,1\r\n", "refuse,2,1");
+}
+
+/// Roasters, request 2026-06: a linear estimate from 18,000 (19,894 and a part), a stop at the
+/// upper end, and each kind of step over the whole range.
+#[test]
+fn trials_of_roasters() {
+    let roaster = Opening::new(1, 18_000, 60_000, 100);
+    trial(roaster, &[-9_000], "next,60000,1");
+    trial(roaster, &[-9_000, 10_000], "next,37894,2");
+    trial(
+        Opening::new(1, 59_998, 60_000, 1),
+        &[-1, 1],
+        "stop,59998,60000,60000,2",
+    );
+    let down = Opening::new(1, 60_000, 0, 1);
+    trial(down, &[1, -9_999, 10_000], "next,29995,3");
+    trial(down, &[1, -9_999, 10_000, -3_333], "next,39993,4");
+    let up = Opening::new(2, 0, 60_000, 1);
+    trial(up, &[-1, 9_999, -10_000], "next,30003,3");
+    let down = Opening::new(2, 60_000, 0, 1);
+    trial(down, &[-7_721, 4_218, 2_198, 946, 162], "next,52858,5");
 }
 
 #[test]
@@ -151,11 +191,14 @@ fn fields_in_quotes() {
 fn numbers_of_records() {
     let with = |n| [&b"9,0,0,0\r\n"[..], &b"0,0\r\n".repeat(n)].concat();
     sheet_trial(&with(72), "refuse,1,1");
-    sheet_trial(&with(73), "refuse,11,74");
+    // Request 2026-06: these stand for document 01's refusal of a 73rd answer record.
+    sheet_trial(&with(73), "refuse,1,1");
+    sheet_trial(&with(77), "refuse,1,1");
+    sheet_trial(&with(78), "refuse,11,79");
     let last = |n, last: &[u8]| [&with(n), last].concat();
-    sheet_trial(&last(71, b"0"), "refuse,12,73");
-    sheet_trial(&last(71, b"\"0\",0"), "refuse,1,1");
-    sheet_trial(&last(72, b"0"), "refuse,11,74");
+    sheet_trial(&last(76, b"0"), "refuse,12,78");
+    sheet_trial(&last(76, b"\"0\",0"), "refuse,1,1");
+    sheet_trial(&last(77, b"0"), "refuse,11,79");
 }
 
 /// The bracket 0 to 13, cut in the middle at 7, leaves 0 to 7: that step halves, though 7 is more
@@ -206,6 +249,12 @@ fn quotes() {
         };
         assert_eq!(asked(1, 0, 20_000, 1), Quotation::quote(14, 58));
         assert_eq!(asked(2, 20_000, 0, 1), Quotation::quote(14, 72));
+        // Request 2026-06: these stand for document 01's two above, as those of the whole range.
+        assert_eq!(asked(1, 0, 60_000, 1), Quotation::quote(15, 62));
+        assert_eq!(asked(2, 60_000, 0, 1), Quotation::quote(15, 77));
+        assert_eq!(asked(2, 0, 32_768, 1), Quotation::quote(14, 72));
+        assert_eq!(asked(2, 0, 32_769, 1), Quotation::quote(15, 77));
+        assert_eq!(asked(2, 60_001, 0, 1), Quotation::refuse(2));
         assert_eq!(asked(0, 0, 2, 1), Quotation::quote(0, 2));
         assert_eq!(asked(0, 0, 3, 1), Quotation::quote(1, 6));
         assert_eq!(asked(2, 0, 3, 1), Quotation::quote(1, 7));
@@ -229,7 +278,7 @@ fn held_searches() {
         // What is there before does not matter.
         let mut search = Search {
             opening: R,
-            count: 73,
+            count: COUNT_ABOVE,
             slots: [5; SLOTS],
         };
         assert_eq!(open(&mut search, &M), Report::next(0, 0));
@@ -251,10 +300,33 @@ fn held_searches() {
         let refused = Opening::new(1, 5, 5, 1);
         assert_eq!(open(&mut search, &refused), Report::refuse(3, 0));
         assert_eq!(search, held);
-        search.count = 73;
+        search.count = COUNT_ABOVE;
         assert_eq!(ask(&search), Report::refuse(9, 0));
         assert_eq!(enter(&mut search, 33, 1), Report::refuse(9, 0));
     }
+}
+
+/// A count of 73 to 77, which was refused 9 before request 2026-06, is judged by its answers: here
+/// the search stops after two.
+#[test]
+fn counts_at_the_limit() {
+    for ask in [model::ask, plain::ask, ffi::ask] {
+        let mut search = holding(Opening::new(1, 0, 2, 1), &[-1, 1]);
+        for count in [3, 72, 73, 76, 77] {
+            search.count = count;
+            assert_eq!(ask(&search), Report::refuse(5, 2), "{count}");
+        }
+        for count in cases::COUNTS_ABOVE {
+            search.count = count;
+            assert_eq!(ask(&search), Report::refuse(9, 0), "{count}");
+        }
+    }
+}
+
+/// No search needs more answers than there are slots, and one by R may need them all.
+#[test]
+fn slots_are_enough() {
+    assert_eq!(model::quote(&cases::widest(2)).most as usize, SLOTS);
 }
 
 /// By value the search that was passed stays, and after a refusal the one returned is equal to it.
@@ -322,16 +394,16 @@ fn clean_sheets_keep_the_method() {
 /// The numbers with the most digits, and the first end above the second.
 #[test]
 fn long_records_of_clean_sheets() {
-    let widest = Opening::new(2, 20_000, 0, 5_000);
     clean_trial(
-        &holding(widest, &[-10_000, 10_000]),
-        "2,20000,0,5000\r\n20000,-10000\r\n0,10000\r\n",
+        &holding(Opening::new(2, HIGHEST, 0, 5_000), &[-10_000, 10_000]),
+        &format!("2,{HIGHEST},0,5000\r\n{HIGHEST},-10000\r\n0,10000\r\n"),
     );
+    let opening = format!("0,{HIGHEST},{},5000\r\n", HIGHEST - 1);
+    let answer = format!("{HIGHEST},-10000\r\n");
     clean_trial(
-        &holding(Opening::new(0, 20_000, 19_999, 5_000), &[-10_000]),
-        "0,20000,19999,5000\r\n20000,-10000\r\n",
+        &holding(Opening::new(0, HIGHEST, HIGHEST - 1, 5_000), &[-10_000]),
+        &format!("{opening}{answer}"),
     );
-    let (opening, answer) = ("0,20000,19999,5000\r\n", "20000,-10000\r\n");
     let longest = opening.len() + answer.len() * SLOTS;
     assert_eq!(longest, LONGEST_CLEAN_SHEET);
 }
@@ -356,12 +428,13 @@ fn clean_sheets_refused() {
     let mut spoilt = with(2, -1);
     spoilt.opening.second = 0;
     let refused = [
-        (with(73, -1), Written::refuse(9, 0)),
+        (with(COUNT_ABOVE, -1), Written::refuse(9, 0)),
         (with(u32::MAX, -1), Written::refuse(9, 0)),
         (spoilt, Written::refuse(3, 0)),
         (with(1, 10_001), Written::refuse(7, 0)),
         (with(2, 1), Written::refuse(8, 1)),
         (with(3, -1), Written::refuse(5, 2)),
+        (with(SLOTS as u32, -1), Written::refuse(5, 2)),
     ];
     for (search, refusal) in refused {
         for write in WRITERS {
@@ -398,7 +471,7 @@ fn brackets_of_the_book() {
     for _ in 0..500 {
         let whole = cases::answered(cases::accepted_opening(&mut rng), &mut rng);
         let mut book = Book::new(*whole.opening());
-        let mut before = (0, 20_000);
+        let mut before = (0, i128::from(HIGHEST));
         for answer in whole.answers() {
             book.offer(answer.point as i32, answer.value as i32);
             let Some((b, c)) = book.ends() else { continue };
@@ -414,10 +487,11 @@ fn brackets_of_the_book() {
 /// The beam finds long searches, within the bounds.
 #[test]
 fn long_searches() {
-    for (method, found, bound) in [(1, 40, 58), (2, 50, 72)] {
-        let opening = Opening::new(method, 0, 20_000, 1);
+    for (method, found) in [(1, 44), (2, 61)] {
+        let opening = cases::widest(method);
+        let most = model::quote(&opening).most as usize;
         let orders = beam::longest(&opening, 30, &mut Rng::new(7));
-        assert!((found..=bound).contains(&orders[0].len()));
+        assert!((found..=most).contains(&orders[0].len()));
         let report = model::values(&opening, &orders[0]);
         assert_eq!(report.kind, Report::STOP);
         assert_eq!(report, plain::values(&opening, &orders[0]));

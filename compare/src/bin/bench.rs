@@ -18,9 +18,7 @@ const REPETITIONS: usize = 101;
 const USUAL: usize = 1_000;
 const MANY: usize = 20_000;
 
-/// The states that the beam keeps on its way to long searches, and how many of those it finds are
-/// timed for each method.
-const WIDE: usize = 1_500;
+/// Of the longest searches that the beam finds, by M and by R, those that are timed.
 const LONG: usize = 150;
 
 /// One search that was answered up to its stop, in every form in which it is to be handed over.
@@ -92,8 +90,8 @@ type Offer = (Search, (i32, i32));
 type Timed<'a> = &'a dyn Fn(Calls, &[Work]) -> f64;
 
 /// How many answers a search holds where the growth of an answer's cost is looked at. We know of no
-/// search that takes a 61st: the long ones by R have stopped by then, and the answer is refused.
-const BEFORE: [usize; 5] = [2, 10, 20, 40, 60];
+/// search that takes a 70th: the long ones by R have stopped by then, and the answer is refused.
+const BEFORE: [usize; 6] = [2, 10, 20, 40, 60, 69];
 
 fn main() {
     println!("bench: seed {SEED}; what answers is {}", ffi::WHO);
@@ -122,12 +120,12 @@ fn usual(count: usize, rng: &mut Rng) -> Vec<Work> {
     (0..count).map(one).collect()
 }
 
-/// The longest searches that the beam finds from 0 to 20,000 at τ = 1, by M and by R.
+/// The longest searches that the beam finds over the whole range at τ = 1, by M and by R.
 fn long(rng: &mut Rng) -> Vec<Work> {
     let mut works = Vec::new();
     for method in [1, 2] {
-        let opening = Opening::new(method, 0, 20_000, 1);
-        let orders = beam::longest(&opening, WIDE, rng);
+        let opening = cases::widest(method);
+        let orders = beam::longest(&opening, beam::WIDE, rng);
         let one = |order: &Vec<i32>| Work::new(&model::Book::of(opening, order));
         works.extend(orders.iter().take(LONG).map(one));
     }

@@ -8,7 +8,6 @@ use compare::checks::{agree, Checked};
 use compare::model::{self, Book};
 use compare::rng::Rng;
 use compare::sheets::{self, Text};
-use compare::types::Opening;
 use compare::{beam, cases};
 use std::io::{ErrorKind, Write};
 use std::path::{Path, PathBuf};
@@ -17,7 +16,7 @@ use std::process::{Command, ExitCode, Output, Stdio};
 const SEED: u64 = 1975;
 const TEXTS: usize = 1_500;
 
-/// The long orders that the beam keeps, for M and for R.
+/// Of the longest orders that the beam finds, by M and by R, those that are tried.
 const ORDERS: usize = 10;
 
 fn main() -> ExitCode {
@@ -63,9 +62,10 @@ fn texts(rng: &mut Rng) -> Vec<Vec<u8>> {
         texts.push(clean_sheet(&on_its_way(rng)));
     }
     for method in [1, 2] {
-        let opening = Opening::new(method, 0, 20_000, 1);
-        for order in beam::longest(&opening, ORDERS, rng) {
-            let book = Book::of(opening, &order);
+        let opening = cases::widest(method);
+        let orders = beam::longest(&opening, beam::WIDE, rng);
+        for order in orders.iter().take(ORDERS) {
+            let book = Book::of(opening, order);
             texts.push(sheets::write_spelt(&opening, &book.pairs(), rng));
             texts.push(clean_sheet(&book));
         }

@@ -1,4 +1,4 @@
--- A bracket that answers have led to is countable: no accepted opening needs more than 72 of them.
+-- A bracket that answers have led to is countable: no accepted opening needs more of them than there are slots.
 -- Assumes nothing.
 use native.Mathlib.Omega.{arith}
 use Rattle.rules.specs.declared.Opening.{Opening}

@@ -24,7 +24,7 @@ use rules::Row;
 pub extern "C" fn busdekker_version() -> u32
     ensures { λ r. ⌜ r ≡ version ⌝ }
 {
-    5
+    6
 }
 
 // t and the most answers that an opening may need.

@@ -23,7 +23,7 @@ use Rattle.clean_sheets.specs.Clean.{heldAnswers, cleanOf, longestSheet,
 
 -- ---- of an accepted search
 
--- its report is no refusal; it has 72 slots, as every search of the program has
+-- its report is no refusal; it has all its slots, as every search of the program has
 pub record AcceptedSearch (s : Search) : Type 0 where
   pub accepted : isRefusal (heldReport s) ≡ false
   pub full : length (s .slots) ≡ slots

@@ -64,7 +64,7 @@ sheetText o answers =
 unfoldable pub cleanOf : Search → List ℕ
 cleanOf s = sheetText (s .opening) (heldAnswers s)
 
--- the length of the longest: method 1, ends 5 each, τ 4, three commas and CR LF; 72 times point 5, comma, value 6 and CR LF
+-- the length of the longest: method 1, ends 5 each, τ 4, three commas and CR LF; for each slot point 5, comma, value 6 and CR LF
 abbrev pub longestSheet : ℕ
 longestSheet = 20 + 14 * slots
 

@@ -1,7 +1,7 @@
 -- Clean sheets worked by hand, in lists with one statement each: the sheet of a search, what is told and left in a buffer, and a sheet
 -- cleaned. All hold by computation.
 -- Assumes nothing.
-use Prim.Native.Nat.{ℕ}
+use Prim.Native.Nat.{ℕ, _+_}
 use Prim.Native.String.{String}
 use mathlib.Core.Path.{_≡_, refl}
 use mathlib.Core.List.{List, [], _∷_, _++_}
@@ -44,7 +44,7 @@ abbrev sheets : List Sheet
 sheets =
     -- no answer; the method is as held, also 0
     sheet (holds upTo100 []) "1,0,100,1\r\n"
-    ∷ sheet (holds (opening 0 20000 0 5000) []) "0,20000,0,5000\r\n"
+    ∷ sheet (holds (opening 0 60000 0 5000) []) "0,60000,0,5000\r\n"
     -- one answer; two, with a value of 0
     ∷ sheet (holds upTo100 (negative 50 ∷ [])) "1,0,100,1\r\n0,-50\r\n"
     ∷ sheet (holds (opening 2 100 0 1) (pos 0 ∷ negative 10000 ∷ [])) "2,100,0,1\r\n100,0\r\n0,-10000\r\n"
@@ -64,7 +64,7 @@ unfolding methodOf toleranceAt startOf stoppedOf forwardOf displacementOf linear
 sheets-hold = (refl, (refl, (refl, (refl, (refl, tt)))))
 
 -- the bound
-bound : longestSheet ≡ 1028
+bound : longestSheet ≡ 1098
 bound = refl
 
 -- ---- written into a buffer of so many bytes, all of them 9
@@ -78,9 +78,9 @@ record Writing : Type 0 where
 abbrev writing : Search → ℕ → Written → List ℕ → Writing
 writing s n told left = record { search = s; size = n; told = told; left = left }
 
--- with a count that is above the slots
-abbrev overfull : Search
-overfull = record { opening = opening 1 5 5 1; count = 73; slots = replicate slots (pos 0) }
+-- of equal ends, and claiming so many answers
+abbrev claiming : ℕ → Search
+claiming n = record { opening = opening 1 5 5 1; count = n; slots = replicate slots (pos 0) }
 
 abbrev writings : List Writing
 writings =
@@ -88,8 +88,9 @@ writings =
     writing (holds upTo100 []) 13 (Written.Sheet 11) (bytes "1,0,100,1\r\n" ++ replicate 2 9)
     ∷ writing (holds upTo100 []) 11 (Written.Sheet 11) (bytes "1,0,100,1\r\n")
     ∷ writing (holds upTo100 []) 10 (Written.Refused 13 0) (replicate 10 9)
-    -- the search itself comes first: 9, before its opening; the opening; a held value, with its index
-    ∷ writing overfull 0 (Written.Refused 9 0) []
+    -- the search itself comes first: 9, before its opening; the opening, also of a search whose slots are all taken; a held value, with its index
+    ∷ writing (claiming (slots + 1)) 0 (Written.Refused 9 0) []
+    ∷ writing (claiming slots) 0 (Written.Refused 3 0) []
     ∷ writing (holds (opening 1 5 5 1) []) 0 (Written.Refused 3 0) []
     ∷ writing (holds upTo100 (pos 5 ∷ pos 6 ∷ [])) 30 (Written.Refused 8 1) (replicate 30 9)
     ∷ []
@@ -102,7 +103,7 @@ AllWritten (x ∷ xs) =
 writings-hold : AllWritten writings
 unfolding openingRefusal answerRefusal sameSide beginOf offerOf takeOf progressOf reportAt standingOf heldReport decimalWithin decimalOf
     withPoints numberText answersText sheetText cleanOf placed writtenOf bufferOf
-writings-hold = (refl, refl, (refl, refl, (refl, refl, (refl, refl, (refl, refl, (refl, refl, tt))))))
+writings-hold = (refl, refl, (refl, refl, (refl, refl, (refl, refl, (refl, refl, (refl, refl, (refl, refl, tt)))))))
 
 -- ---- a sheet cleaned
 

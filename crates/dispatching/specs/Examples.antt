@@ -1,13 +1,13 @@
 -- Worked examples of the dispatcher, each by computation.
 -- Assumes nothing.
-use Prim.Native.Nat.{ℕ}
+use Prim.Native.Nat.{ℕ, _+_}
 use mathlib.Core.Path.{_≡_, refl}
 use mathlib.Core.List.{List, [], _∷_, _++_, map}
 use lib.IntN.{pos, negsuc}
 use lib.ListN.{take, replicate}
 use Rattle.rules.specs.declared.Opening.{Opening}
 use Rattle.rules.specs.declared.Report.{Report}
-use Rattle.rules.specs.Rules.{stoppedOf, startOf, toleranceAt}
+use Rattle.rules.specs.Rules.{slots, stoppedOf, startOf, toleranceAt}
 use Rattle.rules.specs.Refusals.{openingRefusal, answerRefusal, sameSide}
 use Rattle.rules.specs.Search.{beginOf, offerOf, takeOf, progressOf, bracketReport, reportAt, reportOf}
 use Rattle.held.specs.Held.{freshOf, reopenOf, standingOf, heldReport, enterOf}
@@ -100,9 +100,9 @@ later =
     ∷ opening 5 wide
     ∷ []
 
--- a host's dispatcher whose searches say that they hold 73 answers
+-- a host's dispatcher whose searches say that they hold more answers than they have slots
 abbrev junk : Dispatcher
-junk = record { searches = replicate 6 (record { opening = wide; count = 73; slots = replicate 72 (pos 5) }); last = 7; counts = replicate 6 9 }
+junk = record { searches = replicate 6 (record { opening = wide; count = slots + 1; slots = replicate slots (pos 5) }); last = 7; counts = replicate 6 9 }
 
 -- counts of which one is just below the ceiling, one at it and one past it; and counts far below it that add up to one less
 abbrev around-ceiling : List ℕ

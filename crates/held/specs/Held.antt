@@ -18,7 +18,7 @@ use Rattle.held.specs.declared.Entered.{Entered}
 
 -- ---- fresh searches
 
--- an opening, a count of 0 and 72 slots of 0
+-- an opening, a count of 0 and 0 in every slot
 abbrev pub freshOf : Opening → Search
 freshOf o = record { opening = o; count = 0; slots = replicate slots (pos 0) }
 

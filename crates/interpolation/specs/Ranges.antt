@@ -1,4 +1,4 @@
--- The ranges that the arithmetic is proved for: wider than document 01's points, so that a wider scale of points costs no proof here.
+-- The ranges that the arithmetic is proved for: wider than the points of an opening, so that a wider scale of points costs no proof here.
 -- Assumes nothing.
 use Prim.Native.Nat.{ℕ, _+_, _*_, _≤_}
 use Rattle.integers.specs.Bounds.{Within}

@@ -19,7 +19,7 @@ ReadAs text o answers = entriesOf text ≡ filled o (points answers) (values ans
 
 pub record Reading (text : List ℕ) : Type 0 where
   -- it is read as an opening and answers exactly when it spells them, and the answers are no more than the slots. No bound on its
-  -- length is asked: a text that spells no more than 72 answers is never too long
+  -- length is asked: a text that spells no more answers than the slots is never too long
   pub exactly : (o : Opening) (answers : List Answer) → ReadAs text o answers ↔ (SheetText text o answers × (length answers ≤ slots))
   -- every other text is refused
   pub taken : entriesOf text .form ≡ Form.Read → (o : Opening) × (answers : List Answer) × ReadAs text o answers

@@ -108,7 +108,10 @@ module _ (m τ W n L s : ℕ) (tol : 1 ≤ τ) (b : Bound m τ W n L s) (going :
             most = omega (arith, bound-below);
           })
 
--- ---- over the whole range t is at most 14
+-- ---- t is largest over the whole range at the least tolerance, whatever the range is
 
-pub turns-few : (τ W : ℕ) → 1 ≤ τ → W ≤ 20000 → turnsOf τ W ≤ 14
-turns-few τ W p h = turns-least τ W p .least 14 (omega (arith, mul-le-mul {n₁ = 1} {m₁ = 2 ^ 15} {n₂ = τ} {m₂ = 2 ^ 15} p (omega arith)))
+pub turns-few : (τ W H : ℕ) → 1 ≤ τ → W ≤ H → turnsOf τ W ≤ turnsOf 1 H
+turns-few τ W H p h =
+    let t = turnsOf 1 H in
+    let reached : 1 * 2 ^ (t + 1) ≤ τ * 2 ^ (t + 1) = mul-le-mul {n₁ = 1} {m₁ = 2 ^ (t + 1)} {n₂ = τ} {m₂ = 2 ^ (t + 1)} p (omega arith) in
+    turns-least τ W p .least t (omega (arith, turns-least 1 H (omega arith) .holds, reached))

@@ -132,17 +132,17 @@ backs-hold = refl
 -- ---- the quote
 
 abbrev opening : ℤ → ℤ → Opening
-opening method tolerance = record { method = method; first = pos 20000; second = pos 0; tolerance = tolerance }
+opening method tolerance = record { method = method; first = pos 60000; second = pos 0; tolerance = tolerance }
 
-whole-range-by-M : quoteOf (opening (pos 0) (pos 1)) ≡ Quote.Quoted 14 58
+whole-range-by-M : quoteOf (opening (pos 0) (pos 1)) ≡ Quote.Quoted 15 62
 unfolding quoteOf openingRefusal methodOf turnsOf digits halvings
 whole-range-by-M = refl
 
-whole-range-by-R : quoteOf (opening (pos 2) (pos 1)) ≡ Quote.Quoted 14 72
+whole-range-by-R : quoteOf (opening (pos 2) (pos 1)) ≡ Quote.Quoted 15 77
 unfolding quoteOf openingRefusal methodOf turnsOf digits halvings
 whole-range-by-R = refl
 
-largest-tolerance : quoteOf (opening (pos 1) (pos 5000)) ≡ Quote.Quoted 1 6
+largest-tolerance : quoteOf (opening (pos 1) (pos 5000)) ≡ Quote.Quoted 3 14
 unfolding quoteOf openingRefusal methodOf turnsOf digits halvings
 largest-tolerance = refl
 

@@ -20,7 +20,7 @@ use Rattle.rules.specs.declared.Step.{Step}
 
 -- of a point, from 0
 abbrev pub highest : ℕ
-highest = 20000
+highest = 60000
 
 -- of the tolerance, from 1
 abbrev pub largestTolerance : ℕ
@@ -32,9 +32,9 @@ largestValue = 10000
 
 -- of a held search
 abbrev pub slots : ℕ
-slots = 72
+slots = 77
 
--- 72 slots: numbers in the first of them, in order, and 0 in the others
+-- all slots: numbers in the first of them, in order, and 0 in the others
 abbrev pub padded : List ℤ → List ℤ
 padded zs = zs ++ replicate (slots - length zs) (pos 0)
 

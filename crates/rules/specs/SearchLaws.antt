@@ -13,7 +13,7 @@ use borrow.Author.Tests.{eqb-true, ltb-false, eq-eqb}
 use lib.Dec.{eqb}
 use lib.ListN.{length}
 use lib.IntN.{ℤ, pos, natAbs}
-use Rattle.integers.specs.Digits.{Least}
+use Rattle.integers.specs.Digits.{halvings, digits, Least}
 use Rattle.integers.specs.SignsLaws.{never}
 use Rattle.rules.specs.declared.Opening.{Opening}
 use Rattle.rules.specs.declared.Method.{Method}
@@ -29,7 +29,7 @@ use Rattle.rules.specs.RulesLaws.{start-is, start-counts, Halves, Rule7,
 use Rattle.rules.specs.Refusals.{openingRefusal, answerRefusal, tooLarge, sameSide, Accepted}
 use Rattle.rules.specs.RefusalsLaws.{Opened, opened, Passed, answer-passed, crossing-opposed}
 use Rattle.rules.specs.Search.{isRefused, beginOf, stoppedAt, sameSideAt, takenOf, enteredAt, answeredAt, offerOf, takeOf, progressOf}
-use Rattle.rules.specs.Search.{answersOf, bracketReport, reportAt, isRefusal, distanceOf, tOf, mostOf}
+use Rattle.rules.specs.Search.{answersOf, bracketReport, reportAt, isRefusal, distanceOf, turnsOf, tOf, mostOf}
 use Rattle.rules.specs.BoundLaws.{turns-least, turns-few, Bound, bound-start, bound-below, bound-step}
 
 -- ---- what is known of a bracket that answers have led to
@@ -355,20 +355,26 @@ module _ (o : Opening) (accepted : Accepted o) (vs : List ℤ) (k : Bracket) (at
 
 -- ---- the quote
 
+-- t over the whole range at τ = 1
+whole-range : turnsOf 1 highest ≡ 15
+unfolding turnsOf digits halvings
+whole-range = refl
+
 module _ (o : Opening) (op : Opened o) where
   -- t is the least whole number, zero or more, for which τ 2 ^ (t + 1) reaches the distance between the ends
   pub t-least : Least (λ t. distanceOf o ≤ natAbs (o .tolerance) * 2 ^ (t + 1)) (tOf o)
   t-least = turns-least (natAbs (o .tolerance)) (distanceOf o) (op .tolerance .least)
 
-  pub t-few : tOf o ≤ 14
+  pub t-few : tOf o ≤ 15
   t-few =
-      turns-few (natAbs (o .tolerance)) (distanceOf o) (op .tolerance .least) (omega (arith, op .first .most, op .second .most))
+      let few = turns-few (natAbs (o .tolerance)) (distanceOf o) highest (op .tolerance .least) (omega (arith, op .first .most, op .second .most)) in
+      subst (λ (t : ℕ). tOf o ≤ t) whole-range few
 
-  -- no accepted opening needs more than 58 answers by M or 72 by R
-  pub most-by-M : methodOf o ≡ Method.M → mostOf o ≤ 58
+  -- no accepted opening needs more than 62 answers by M or 77 by R
+  pub most-by-M : methodOf o ≡ Method.M → mostOf o ≤ 62
   most-by-M e = rw e (omega (arith, t-few))
 
-  pub most-by-R : methodOf o ≡ Method.R → mostOf o ≤ 72
+  pub most-by-R : methodOf o ≡ Method.R → mostOf o ≤ 77
   most-by-R e = rw e (omega (arith, t-few))
 
   -- so a held search has a slot for each

@@ -1,5 +1,5 @@
--- Trials: the report on an opening and its values is the one stated, all by one statement. First the starred trials of document 01,
--- then the other rows of its table and refusals in its order. `Branches` has a trial for each branch of rules 1 to 8.
+-- Trials: the report on an opening and its values is the one stated, each list by one statement. First the starred trials of document 01,
+-- then the other rows of its table and refusals in its order, then the whole range. `Branches` has a trial for each branch of rules 1 to 8.
 -- Assumes nothing.
 use Prim.Native.Nat.{ℕ}
 use mathlib.Core.Path.{_≡_, refl}
@@ -72,8 +72,6 @@ further =
     ∷ trial (pos 3) (pos 5) (pos 5) (pos 0) [] (Refused 1 0)
     ∷ trial (minus 1) (pos 0) (pos 100) (pos 1) [] (Refused 1 0)
     ∷ trial (pos 0) (minus 1) (minus 1) (pos 0) [] (Refused 2 0)
-    ∷ trial (pos 1) (pos 0) (pos 20000) (pos 1) [] (Next 0 0)
-    ∷ trial (pos 1) (pos 0) (pos 20001) (pos 1) [] (Refused 2 0)
     ∷ trial (pos 1) (minus 1) (pos 5) (pos 1) [] (Refused 2 0)
     ∷ trial (pos 0) (pos 5) (pos 5) (pos 0) [] (Refused 3 0)
     ∷ trial (pos 1) (pos 0) (pos 100) (pos 5000) [] (Next 0 0)
@@ -96,3 +94,32 @@ further =
 pub further-hold : AllHold further
 unfolding reported
 further-hold = refl
+
+-- ---- the whole range, 0 to 60,000 since request 2026-06
+
+abbrev pub wide : List Trial
+wide =
+    -- these two stand for document 01's trials of an end, 20,000 taken and 20,001 refused
+    trial (pos 1) (pos 0) (pos 60000) (pos 1) [] (Next 0 0)
+    ∷ trial (pos 1) (pos 0) (pos 60001) (pos 1) [] (Refused 2 0)
+    ∷ trial (pos 1) (pos 60001) (pos 0) (pos 1) [] (Refused 2 0)
+    -- the old border, on both sides
+    ∷ trial (pos 1) (pos 0) (pos 20000) (pos 1) [] (Next 0 0)
+    ∷ trial (pos 1) (pos 0) (pos 20001) (pos 1) [] (Next 0 0)
+    ∷ trial (pos 1) (pos 20001) (pos 0) (pos 1) [] (Next 20001 0)
+    -- a stop at the upper end, and the largest tolerance
+    ∷ trial (pos 1) (pos 59998) (pos 60000) (pos 1) (minus 1 ∷ pos 1 ∷ []) (Stop 59998 60000 60000 2)
+    ∷ trial (pos 2) (pos 60000) (pos 0) (pos 5000) (minus 10000 ∷ pos 10000 ∷ []) (Next 30000 2)
+    -- linear: b = 0 and a = 59,994, with −9,999 and 10,000: u = 599,880,006/19,999
+    ∷ trial (pos 1) (pos 60000) (pos 0) (pos 1) (pos 1 ∷ minus 9999 ∷ pos 10000 ∷ []) (Next 29995 3)
+    -- rational, at s = 2: u = 59,979,002,433,223,335/5,998,566,766,665
+    ∷ trial (pos 1) (pos 60000) (pos 0) (pos 1) (pos 1 ∷ minus 9999 ∷ pos 10000 ∷ minus 3333 ∷ []) (Next 39993 4)
+    -- rational by R: u = 359,892,010,799,640,000/5,998,200,060,000 is more than L/2 = 29,997
+    ∷ trial (pos 2) (pos 0) (pos 60000) (pos 1) (minus 1 ∷ pos 9999 ∷ minus 10000 ∷ []) (Next 30003 3)
+    -- doubled: u = 124,093,824,145,920/22,556,450,256
+    ∷ trial (pos 2) (pos 60000) (pos 0) (pos 1) (minus 7721 ∷ pos 4218 ∷ pos 2198 ∷ pos 946 ∷ pos 162 ∷ []) (Next 52858 5)
+    ∷ []
+
+pub wide-hold : AllHold wide
+unfolding reported
+wide-hold = refl

@@ -1,13 +1,13 @@
 // The types of the search, of which document 01 speaks. There is no function here: see specs/.
 
 // The limits: of a point, of the tolerance, of a value above and below 0, and of the answers that a held search keeps.
-pub const HIGHEST: u32 = 20000;
+pub const HIGHEST: u32 = 60000;
 
 pub const LARGEST_TOLERANCE: u32 = 5000;
 
 pub const LARGEST_VALUE: u32 = 10000;
 
-pub const SLOTS: usize = 72;
+pub const SLOTS: usize = 77;
 
 // The refusals by number, in document 01's words. An opening: method not 0, 1 or 2; an end out of range; ends equal; τ out of range.
 pub const UNKNOWN_METHOD: u32 = 1;
@@ -28,10 +28,10 @@ pub const VALUE_OUT_OF_RANGE: u32 = 7;
 
 pub const SAME_SIGN: u32 = 8;
 
-// A held search: count above 72.
+// A held search: count above the slots.
 pub const COUNT_ABOVE: u32 = 9;
 
-// A text: longer than 4,096 bytes; a 73rd answer record; the form of a record is wrong, or the first is absent.
+// A text: longer than 4,096 bytes; one answer record more than the slots; the form of a record is wrong, or the first is absent.
 pub const TOO_LONG: u32 = 10;
 
 pub const TOO_MANY: u32 = 11;

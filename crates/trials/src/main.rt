@@ -258,8 +258,12 @@ fn main() {
     let mut text = [0u8; ENOUGH];
     let n = io::read_full(0, &mut text);
     try_each(&text[..n]);
-    io::write_all(1, b"% slots that hold fives, by counts of 73, 2 and 1\n");
-    try_junk(73);
+    io::write_all(
+        1,
+        b"% slots that hold fives, by counts of one more than the slots, of all of them, 2 and 1\n",
+    );
+    try_junk(rules::SLOTS as u32 + 1);
+    try_junk(rules::SLOTS as u32);
     try_junk(2);
     try_junk(1);
     io::write_all(
