@@ -34,7 +34,7 @@ static bool limits_of_ends() {
     return same && busdekker_ask(&search).point == highest;
 }
 
-// A count of all the slots is judged by its answers, of which this search takes two; one more is refused.
+// A count of all the slots is judged by its answers, of which this search takes two; a count of one more is refused 9.
 static bool limits_of_counts(busdekker_opening opening) {
     uint8_t buffer[BUSDEKKER_LONGEST_CLEAN_SHEET];
     busdekker_search search;

@@ -8,8 +8,8 @@ use crate::types::{Opening, Search, Written, LONGEST_CLEAN_SHEET};
 use crate::{beam, cases, ffi};
 use std::hint::black_box;
 
-/// Searches that hold anything; books that are tried at each stage of their way; and of the longest
-/// orders that the beam finds, by M and by R, those that are tried so.
+/// How many searches are tried that hold anything; books, at each stage of their way; and of the
+/// longest orders that the beam finds, by M and by R each, tried so too.
 const HELD: usize = 100_000;
 const BOOKS: usize = 10_000;
 const ORDERS: usize = 100;

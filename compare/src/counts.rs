@@ -1,6 +1,7 @@
 //! How many trials a method needs on a curve, and the figures that are kept of the methods which are run by hand.
 
-use crate::curves::{Curve, GROUPS, HIGHEST};
+use crate::cases::HIGHEST;
+use crate::curves::{Curve, GROUPS};
 use crate::ffi;
 use crate::types::{Opening, Report, Search};
 

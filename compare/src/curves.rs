@@ -1,8 +1,7 @@
 //! The work on which methods are compared by the trials that they need: the test functions of Bus and Dekker (1975), section 5, laid on
 //! the dryer's scale, and a made-up dryer's curves.
 
-/// The highest setting. The lowest is 0.
-pub use crate::cases::HIGHEST;
+use crate::cases::HIGHEST;
 use crate::rng::Rng;
 
 /// The largest value, above and below 0.

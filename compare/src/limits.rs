@@ -7,8 +7,8 @@ use crate::rng::Rng;
 use crate::types::{Opening, Search, SLOTS};
 use crate::{ffi, model, sheets};
 
-const METHODS: [i32; 5] = [-1, 0, 1, 2, 3];
-const TOLERANCES: [i32; 4] = [0, 1, 5_000, 5_001];
+const METHODS_AROUND: [i32; 5] = [-1, 0, 1, 2, 3];
+const TOLERANCES_AROUND: [i32; 4] = [0, 1, 5_000, 5_001];
 const POINTS_BELOW: [i32; 3] = [i32::MIN, -65_536, -1];
 
 /// Counts in range: the least, and those at the limit, now and before request 2026-06.
@@ -20,8 +20,8 @@ pub fn limits(_: &mut Rng, tally: &mut Tally) -> Checked {
     let ends = [&POINTS_BELOW, &POINTS_AT_LIMITS[..], &POINTS_ABOVE, largest].concat();
     for &first in &ends {
         for &second in &ends {
-            for method in METHODS {
-                for tolerance in TOLERANCES {
+            for method in METHODS_AROUND {
+                for tolerance in TOLERANCES_AROUND {
                     opening_agrees(&Opening::new(method, first, second, tolerance), tally)?;
                 }
             }
@@ -41,13 +41,13 @@ fn opening_agrees(opening: &Opening, tally: &mut Tally) -> Checked {
     search.slots[0] = -1;
     for count in COUNTS.into_iter().chain(COUNTS_ABOVE) {
         search.count = count;
-        search_agrees(&search, tally)?;
+        held_agrees(&search, tally)?;
     }
     Ok(())
 }
 
 /// One search as it stands, then with an answer offered at the point called for, then opened anew.
-fn search_agrees(search: &Search, tally: &mut Tally) -> Checked {
+fn held_agrees(search: &Search, tally: &mut Tally) -> Checked {
     let input = || search_as_sheet(search);
     let (mut model, mut library) = (*search, *search);
     let asked = (model::ask(&model), ffi::ask(&library));

@@ -130,7 +130,8 @@ fn sized(start: &[u8], rng: &mut Rng) -> Vec<u8> {
     bytes.copied().take(length).collect()
 }
 
-/// A sheet with about as many answer records as a search has slots. One may be out of form.
+/// A sheet with one answer record fewer than a search has slots, up to three more than it has. One may
+/// be out of form.
 fn counted(mut sheet: Vec<Record>, rng: &mut Rng) -> Vec<u8> {
     let answers = SLOTS - 1 + rng.below(5);
     sheet.resize(1 + answers, b"7,-7\r\n".to_vec());

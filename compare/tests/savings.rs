@@ -1,6 +1,7 @@
 //! The counting of trials, by hand; the paper's tables, by their totals; and what every method promises.
 
 use compare::algol::TABLES;
+use compare::cases;
 use compare::counts::{self, Needed, Row, HERE, TOLERANCES};
 use compare::curves::{self, Curve};
 
@@ -43,7 +44,7 @@ fn tables_have_the_printed_totals() {
 #[test]
 fn never_more_than_quoted() {
     for curve in curves::all() {
-        assert_eq!(curve.values.len() as i32, curves::HIGHEST + 1);
+        assert_eq!(curve.values.len() as i32, cases::HIGHEST + 1);
         for tolerance in TOLERANCES {
             let taken = counts::here(&curve, tolerance);
             for (method, taken) in taken.into_iter().enumerate() {

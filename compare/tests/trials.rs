@@ -249,7 +249,7 @@ fn quotes() {
         };
         assert_eq!(asked(1, 0, 20_000, 1), Quotation::quote(14, 58));
         assert_eq!(asked(2, 20_000, 0, 1), Quotation::quote(14, 72));
-        // Request 2026-06: these stand for document 01's two above, as those of the whole range.
+        // Request 2026-06: the quotes over the whole range, which were the two above.
         assert_eq!(asked(1, 0, 60_000, 1), Quotation::quote(15, 62));
         assert_eq!(asked(2, 60_000, 0, 1), Quotation::quote(15, 77));
         assert_eq!(asked(2, 0, 32_768, 1), Quotation::quote(14, 72));
@@ -323,9 +323,9 @@ fn counts_at_the_limit() {
     }
 }
 
-/// No search needs more answers than there are slots, and one by R may need them all.
+/// The most answers that are quoted, by R over the whole range, are as many as there are slots.
 #[test]
-fn slots_are_enough() {
+fn slots_for_the_widest() {
     assert_eq!(model::quote(&cases::widest(2)).most as usize, SLOTS);
 }
 

@@ -18,7 +18,7 @@ const REPETITIONS: usize = 101;
 const USUAL: usize = 1_000;
 const MANY: usize = 20_000;
 
-/// Of the longest searches that the beam finds, by M and by R, those that are timed.
+/// How many of the longest searches that the beam finds are timed, by M and by R each.
 const LONG: usize = 150;
 
 /// One search that was answered up to its stop, in every form in which it is to be handed over.

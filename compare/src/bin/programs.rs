@@ -16,7 +16,7 @@ use std::process::{Command, ExitCode, Output, Stdio};
 const SEED: u64 = 1975;
 const TEXTS: usize = 1_500;
 
-/// Of the longest orders that the beam finds, by M and by R, those that are tried.
+/// How many of the longest orders that the beam finds are tried, by M and by R each.
 const ORDERS: usize = 10;
 
 fn main() -> ExitCode {

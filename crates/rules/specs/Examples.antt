@@ -170,7 +170,7 @@ stop-row = refl
 refused-row : rowNumbers (rowOf (Report.Refused 6 4)) ≡ 3 ∷ 0 ∷ 0 ∷ 0 ∷ 0 ∷ 0 ∷ 6 ∷ 4 ∷ []
 refused-row = refl
 
-quotation : quotationOf (Quote.Quoted 14 58) ≡ record { kind = 4; t = 14; most = 58; number = 0; place = 0 }
+quotation : quotationOf (Quote.Quoted 15 62) ≡ record { kind = 4; t = 15; most = 62; number = 0; place = 0 }
 quotation = refl
 
 refused-quotation : quotationOf (Quote.Refused 4 0) ≡ record { kind = 3; t = 0; most = 0; number = 4; place = 0 }

@@ -383,7 +383,7 @@ module _ (o : Opening) (op : Opened o) where
     where
       go : (m : Method) → methodOf o ≡ m → mostOf o ≤ slots
       go Method.M e = omega (arith, most-by-M e)
-      go Method.R e = most-by-R e
+      go Method.R e = omega (arith, most-by-R e)
 
 -- ---- an answer that is accepted
 

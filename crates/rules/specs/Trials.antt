@@ -116,7 +116,7 @@ wide =
     ∷ trial (pos 1) (pos 60000) (pos 0) (pos 1) (pos 1 ∷ minus 9999 ∷ pos 10000 ∷ minus 3333 ∷ []) (Next 39993 4)
     -- rational by R: u = 359,892,010,799,640,000/5,998,200,060,000 is more than L/2 = 29,997
     ∷ trial (pos 2) (pos 0) (pos 60000) (pos 1) (minus 1 ∷ pos 9999 ∷ minus 10000 ∷ []) (Next 30003 3)
-    -- doubled: u = 124,093,824,145,920/22,556,450,256
+    -- doubled: 2u = 124,093,824,145,920/22,556,450,256
     ∷ trial (pos 2) (pos 60000) (pos 0) (pos 1) (minus 7721 ∷ pos 4218 ∷ pos 2198 ∷ pos 946 ∷ pos 162 ∷ []) (Next 52858 5)
     ∷ []
 

@@ -9,7 +9,7 @@ pub const LARGEST_VALUE: u32 = 10000;
 
 pub const SLOTS: usize = 77;
 
-// The refusals by number, in document 01's words. An opening: method not 0, 1 or 2; an end out of range; ends equal; τ out of range.
+// The refusals by number, in the words of document 01 and of the requests. An opening: method not 0, 1 or 2; an end out of range; ends equal; τ out of range.
 pub const UNKNOWN_METHOD: u32 = 1;
 
 pub const END_OUT_OF_RANGE: u32 = 2;
@@ -31,7 +31,7 @@ pub const SAME_SIGN: u32 = 8;
 // A held search: count above the slots.
 pub const COUNT_ABOVE: u32 = 9;
 
-// A text: longer than 4,096 bytes; one answer record more than the slots; the form of a record is wrong, or the first is absent.
+// A text: longer than 4,096 bytes; an answer record past the last slot; the form of a record is wrong, or the first is absent.
 pub const TOO_LONG: u32 = 10;
 
 pub const TOO_MANY: u32 = 11;

@@ -7,6 +7,7 @@ use borrow.Author.Needs.{needs}
 use borrow.Author.Tests.{lt-ltb, le-ltb}
 use lib.Seq.{length-take-le}
 use Rattle.rules.specs.declared.Progress.{Progress}
+use Rattle.rules.specs.Rules.{slots}
 use Rattle.rules.specs.Search.{reportAt}
 use Rattle.rules.specs.SearchLaws.{answers-stay}
 use Rattle.verdicts.specs.Judged.{standingBy}
@@ -16,7 +17,7 @@ use Rattle.verdicts.proofs.told.Tie as tie
 returns : tie.Need-returns
 unfolding reportAt standingBy
 returns c = let s = c .before .args in simp (
-  lt-ltb _ _ (c .if1 .taken),
+  lt-ltb slots _ (c .if1 .taken),
   answers-stay (s .opening) (Progress.Refused 9 0) (s .points .now)
       (s .values .now) refl,
 )
@@ -31,7 +32,7 @@ follow-requires c κs = search needs
 
 returns-2 : tie.Need-returns-2
 unfolding standingBy
-returns-2 c = simp (le-ltb _ _ (c .before .before .if1 .left)) (c .follow .ensures)
+returns-2 c = simp (le-ltb slots _ (c .before .before .if1 .left)) (c .follow .ensures)
 
 pub told-spec : {M : Type 1} → statement M
 told-spec = tie.close (tie.spec returns slice-aggregate-follow follow-requires returns-2)
