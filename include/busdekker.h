@@ -36,12 +36,12 @@ extern "C" {
 /* The version of this interface. An archive of the same version answers the same number to busdekker_version(). Since version 2
  * busdekker_sheet takes fields between double quotes and a last record without CR LF. Since version 3 there is busdekker_write. Since version 4
  * there is the dispatcher. Since version 5 it has a count for each dryer, in place of one for all, and 20 bytes more: a host that kept
- * one of version 4 copies its searches and its mark into a fresh one; its count stood where counts[0] stands, and does not tell whose the
- * answers were. Since version 6 a point may be up to 60,000, where it was 20,000, and a search has 77 slots, where it had 72: 20 bytes more,
- * and 120 in a dispatcher. A host that kept a search copies its opening, its count and its 72 slots, with 0 in the other five; of a dispatcher,
- * each search so, the mark and, from version 5, the counts. What was accepted has the same report. What was refused may have another: an end
- * from 20,001 to 60,000 is no longer out of range (2), a count from 73 to 77 no longer too high (9), and a 73rd to 77th answer record no longer
- * one too many (11); search or sheet is then judged by the rest of it. */
+ * one of version 4 copies its searches and its mark into a fresh one; its count stood where counts[0] stood in version 5, and does not
+ * tell whose the answers were. Since version 6 a point may be up to 60,000, where it was 20,000, and a search has 77 slots, where it had 72:
+ * 20 bytes more, and 120 in a dispatcher. A host that kept a search copies its opening, its count and its 72 slots, with 0 in the other five;
+ * of a dispatcher, each search so, the mark and, from version 5, the counts. What was accepted has the same report. What was refused may have
+ * another: an end from 20,001 to 60,000 is no longer out of range (2), a count from 73 to 77 no longer too high (9), and a 73rd to 77th answer
+ * record no longer one too many (11); search or sheet is then judged by the rest of it. */
 #define BUSDEKKER_VERSION 6
 
 /* The answers that a search keeps. */

@@ -112,8 +112,11 @@ fn trials_of_roasters() {
     let down = Opening::new(1, 60_000, 0, 1);
     trial(down, &[1, -9_999, 10_000], "next,29995,3");
     trial(down, &[1, -9_999, 10_000, -3_333], "next,39993,4");
+    let up = Opening::new(1, 0, 60_000, 1);
+    trial(up, &[-9_999, 1, 10_000, -4_999], "next,44992,4");
     let up = Opening::new(2, 0, 60_000, 1);
     trial(up, &[-1, 9_999, -10_000], "next,30003,3");
+    trial(up, &[-5, 9_999, -2, -1, -10_000], "next,30040,5");
     let down = Opening::new(2, 60_000, 0, 1);
     trial(down, &[-7_721, 4_218, 2_198, 946, 162], "next,52858,5");
 }

@@ -114,10 +114,14 @@ wide =
     ∷ trial (pos 1) (pos 60000) (pos 0) (pos 1) (pos 1 ∷ minus 9999 ∷ pos 10000 ∷ []) (Next 29995 3)
     -- rational, at s = 2: u = 59,979,002,433,223,335/5,998,566,766,665
     ∷ trial (pos 1) (pos 60000) (pos 0) (pos 1) (pos 1 ∷ minus 9999 ∷ pos 10000 ∷ minus 3333 ∷ []) (Next 39993 4)
+    -- u = 89,959,505,899,695,005/5,998,450,154,995
+    ∷ trial (pos 1) (pos 0) (pos 60000) (pos 1) (minus 9999 ∷ pos 1 ∷ pos 10000 ∷ minus 4999 ∷ []) (Next 44992 4)
     -- rational by R: u = 359,892,010,799,640,000/5,998,200,060,000 is more than L/2 = 29,997
     ∷ trial (pos 2) (pos 0) (pos 60000) (pos 1) (minus 1 ∷ pos 9999 ∷ minus 10000 ∷ []) (Next 30003 3)
     -- doubled: 2u = 124,093,824,145,920/22,556,450,256
     ∷ trial (pos 2) (pos 60000) (pos 0) (pos 1) (minus 7721 ∷ pos 4218 ∷ pos 2198 ∷ pos 946 ∷ pos 162 ∷ []) (Next 52858 5)
+    -- 2u = 718,333,070,233,087,584/5,990,901,019,952 is more than L/2 = 29,960
+    ∷ trial (pos 2) (pos 0) (pos 60000) (pos 1) (minus 5 ∷ pos 9999 ∷ minus 2 ∷ minus 1 ∷ minus 10000 ∷ []) (Next 30040 5)
     ∷ []
 
 pub wide-hold : AllHold wide

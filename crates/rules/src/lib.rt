@@ -9,7 +9,7 @@ pub const LARGEST_VALUE: u32 = 10000;
 
 pub const SLOTS: usize = 77;
 
-// The refusals by number, in the words of document 01 and of the requests. An opening: method not 0, 1 or 2; an end out of range; ends equal; τ out of range.
+// The refusals by number. An opening: method not 0, 1 or 2; an end out of range; ends equal; τ out of range.
 pub const UNKNOWN_METHOD: u32 = 1;
 
 pub const END_OUT_OF_RANGE: u32 = 2;
