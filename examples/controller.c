@@ -12,7 +12,7 @@
 #include "busdekker.h"
 #include "refusals.h"
 
-static const struct busdekker_opening range = {BUSDEKKER_M, 6000, 12000, 50};
+static const struct busdekker_opening range = {BUSDEKKER_M, 6000, 12000, 50, 0};
 
 /* What the crew enters. */
 struct slip {
@@ -60,7 +60,7 @@ static struct busdekker_report run(struct busdekker_search *search) {
 
 /* A new opening in the place of a search on its way. One that is refused leaves the search as it was. */
 static void mistype_opening(struct busdekker_search *search) {
-    struct busdekker_opening mistyped = {BUSDEKKER_M, 6000, 6000, 50};
+    struct busdekker_opening mistyped = {BUSDEKKER_M, 6000, 6000, 50, 0};
     struct busdekker_report report = busdekker_open(search, mistyped);
     if (report.kind == BUSDEKKER_REFUSED) {
         printf("new opening refused: %s\n", refusal_in_words(report.number));

@@ -19,8 +19,8 @@ struct dryer {
 };
 
 static const struct dryer dryers[BUSDEKKER_DRYERS] = {
-    {{BUSDEKKER_M, 6000, 12000, 100}, 8730}, {{BUSDEKKER_R, 6000, 12000, 100}, 9415},  {{BUSDEKKER_HOUSE, 8000, 9500, 50}, 8802},
-    {{BUSDEKKER_M, 12000, 7000, 100}, 7100}, {{BUSDEKKER_R, 5000, 15000, 200}, 11960}, {{BUSDEKKER_M, 9000, 9150, 100}, 9080},
+    {{BUSDEKKER_M, 6000, 12000, 100, 0}, 8730}, {{BUSDEKKER_R, 6000, 12000, 100, 0}, 9415},  {{BUSDEKKER_HOUSE, 8000, 9500, 50, 0}, 8802},
+    {{BUSDEKKER_M, 12000, 7000, 100, 0}, 7100}, {{BUSDEKKER_R, 5000, 15000, 200, 0}, 11960}, {{BUSDEKKER_M, 9000, 9150, 100, 0}, 9080},
 };
 
 /* Moisture minus target of a dryer's leaf at a setting: the hotter, the drier. */

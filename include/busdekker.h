@@ -5,8 +5,9 @@
  * The archive libbusdekker.a is for x86-64 Linux. It needs memcpy and memset of the C library, and nothing else.
  *
  * Numbers. A point is a setting in hundredths of a degree Celsius, 0 to 60,000. A value is moisture minus target in hundredths of a
- * percentage point, -10,000 to 10,000; 0 is on target. The tolerance is 1 to 5,000, in units of a point. Every number may be given: what is
- * out of range is refused.
+ * percentage point, -10,000 to 10,000; 0 is on target. The tolerance is 1 to 5,000, in units of a point. The share is 0 to 100, in parts per
+ * thousand: the tolerance at a point is the tolerance plus the whole part of share times point / 1,000. Every number may be given: what is out
+ * of range is refused.
  *
  * Promises, for every call and every input. The call ends. It keeps no pointer, allocates nothing, blocks on nothing and has no state of its
  * own, so calls on different searches or dispatchers may run at once, in threads or in interrupts. It reads and writes nothing but what it is
@@ -41,8 +42,11 @@ extern "C" {
  * 20 bytes more, and 120 in a dispatcher. A host that kept a search copies its opening, its count and its 72 slots, with 0 in the other five;
  * of a dispatcher, each search so, the mark and, from version 5, the counts. What was accepted has the same report. What was refused may have
  * another: an end from 20,001 to 60,000 is no longer out of range (2), a count from 73 to 77 no longer too high (9), and a 73rd to 77th answer
- * record no longer one too many (11); search or sheet is then judged by the rest of it. */
-#define BUSDEKKER_VERSION 6
+ * record no longer one too many (11); search or sheet is then judged by the rest of it. Since version 7 an opening ends with a share: 4 bytes
+ * more, in a search too, and 24 in a dispatcher. A host that kept a search copies its opening's four numbers, with 0 for the share, its count
+ * and its slots; of a dispatcher, each search so, the mark and the counts. The reports are the same: with share 0 the tolerance at every point
+ * is the tolerance. A sheet whose first record has five fields is no longer malformed (12) for that; it is judged by the rest of it. */
+#define BUSDEKKER_VERSION 7
 
 /* The answers that a search keeps. */
 #define BUSDEKKER_SLOTS 77
@@ -50,8 +54,8 @@ extern "C" {
 /* The bytes of the longest sheet. */
 #define BUSDEKKER_LONGEST_SHEET 4096
 
-/* 1,098 bytes, 20 for the opening and 14 for each answer: a buffer of so many takes the clean sheet of every search. */
-#define BUSDEKKER_LONGEST_CLEAN_SHEET (20 + 14 * BUSDEKKER_SLOTS)
+/* 1,102 bytes, 24 for the opening and 14 for each answer: a buffer of so many takes the clean sheet of every search. */
+#define BUSDEKKER_LONGEST_CLEAN_SHEET (24 + 14 * BUSDEKKER_SLOTS)
 
 /* The dryers of a dispatcher, which are 0 to 5. */
 #define BUSDEKKER_DRYERS 6
@@ -101,6 +105,7 @@ enum busdekker_refusal {
     BUSDEKKER_END_OUT_OF_RANGE = 2,       /* an end out of range */
     BUSDEKKER_ENDS_EQUAL = 3,             /* ends equal */
     BUSDEKKER_TOLERANCE_OUT_OF_RANGE = 4, /* tolerance out of range */
+    BUSDEKKER_SHARE_OUT_OF_RANGE = 17,    /* share out of range */
     /* each answer in turn: the values held, then the one offered */
     BUSDEKKER_HAD_STOPPED = 5,        /* the search had stopped */
     BUSDEKKER_NOT_CALLED_FOR = 6,     /* its point, where one is given, is not the one called for */
@@ -110,12 +115,14 @@ enum busdekker_refusal {
     BUSDEKKER_BUFFER_TOO_SHORT = 13 /* the buffer is shorter than the sheet */
 };
 
-/* An opening: one of the methods, the two ends of the range, either of which may be the lower, and the tolerance. */
+/* An opening: one of the methods, the two ends of the range, either of which may be the lower, the tolerance, and the share by which it grows
+ * with the point, 0 where it does not. */
 struct busdekker_opening {
     int32_t method;
     int32_t first;
     int32_t second;
     int32_t tolerance;
+    int32_t share;
 };
 
 /* An answer: the point of a trial and its value. */
@@ -159,9 +166,9 @@ struct busdekker_dispatcher {
  *
  *   BUSDEKKER_NEXT     point is the setting called for, and taken the number of answers taken.
  *   BUSDEKKER_STOP     lower and upper are the ends of the last bracket, better the one of them whose value is nearer to target, and taken the
- *                      number of answers taken.
+ *                      number of answers taken. The bracket is no wider than twice the tolerance at the better end.
  *   BUSDEKKER_REFUSED  number says why, and place where:
- *                        1 to 4, 9, 14 to 16
+ *                        1 to 4, 9, 14 to 17
  *                                     place is 0
  *                        5 to 8       place is the index of the refused value, counted from 0: in a list, its index there; in a held search,
  *                                     its slot; of an answer that is offered to a held search, the count
@@ -182,8 +189,9 @@ struct busdekker_report {
  * What is told of an opening before the first trial. A number that its kind has not is 0.
  *
  *   BUSDEKKER_QUOTED   the search takes at most `most` answers: 2 + 4t by M, 2 + 5t by R. t is the least whole number for which tolerance times
- *                      2 to the power t + 1 reaches the distance between the ends.
- *   BUSDEKKER_REFUSED  number is 1 to 4, and place 0.
+ *                      2 to the power t + 1 reaches the distance between the ends. That is the tolerance alone: the quotation is the same for
+ *                      every share, and holds for every share.
+ *   BUSDEKKER_REFUSED  number is 1 to 4 or 17, and place 0.
  */
 struct busdekker_quotation {
     uint32_t kind;
@@ -197,7 +205,7 @@ struct busdekker_quotation {
  * What is told of a sheet that is to be written. A number that its kind has not is 0.
  *
  *   BUSDEKKER_WRITTEN  length is the number of the sheet's bytes, which stand at the beginning of the buffer.
- *   BUSDEKKER_REFUSED  number is 1 to 5, 7 to 9 or 13, and nothing was written. Place is the one that busdekker_ask tells, and 0 for 13.
+ *   BUSDEKKER_REFUSED  number is 1 to 5, 7 to 9, 13 or 17, and nothing was written. Place is the one that busdekker_ask tells, and 0 for 13.
  */
 struct busdekker_written {
     uint32_t kind;
@@ -222,14 +230,15 @@ struct busdekker_quotation busdekker_quote(struct busdekker_opening opening);
 /*
  * Makes *search a fresh search of the opening: the opening, a count of 0 and 77 slots of 0. What it held before does not matter. The report
  * calls for the first end.
- * A refusal (1 to 4) leaves *search as it was: a search on its way goes on as if this call had not been made, and where none was there, none is.
+ * A refusal (1 to 4, 17) leaves *search as it was: a search on its way goes on as if this call had not been made, and where none was there, none
+ * is.
  */
 struct busdekker_report busdekker_open(struct busdekker_search *search, struct busdekker_opening opening);
 
 /*
  * Offers an answer to *search: the point of a trial and its value. An accepted one enters the next slot and adds 1 to the count; the report is
  * that of the search after it.
- * A refusal (1 to 9) leaves *search as it was, and the same point stays called for: after 6, 7 or 8 the trial may be repeated or its value
+ * A refusal (1 to 9, 17) leaves *search as it was, and the same point stays called for: after 6, 7 or 8 the trial may be repeated or its value
  * corrected, and offered again. Place is the count where the answer itself is refused, and the slot where a value held is.
  */
 struct busdekker_report busdekker_enter(struct busdekker_search *search, int32_t point, int32_t value);
@@ -239,27 +248,29 @@ struct busdekker_report busdekker_enter(struct busdekker_search *search, int32_t
 struct busdekker_answered busdekker_entered(struct busdekker_search search, int32_t point, int32_t value);
 
 /* Asks for the report of *search as it stands, which is read and not written. Slots at or past the count never alter it. A refusal (1 to 5, 7
- * to 9) says that *search was not made by this interface. */
+ * to 9, 17) says that *search was not made by this interface. */
 struct busdekker_report busdekker_ask(const struct busdekker_search *search);
 
 /* The report on an opening and the values answered so far, in the order called for. `values` points to `length` numbers, any number of them,
- * which are read and not written; it is not null even where `length` is 0. A refusal is 1 to 5, 7 or 8. */
+ * which are read and not written; it is not null even where `length` is 0. A refusal is 1 to 5, 7, 8 or 17. */
 struct busdekker_report busdekker_values(struct busdekker_opening opening, const int32_t *values, size_t length);
 
-/* The outcome of a trial sheet: the report of the search that it is, or a refusal (1 to 8, 10 to 12), whose place is a record. `text` points to
- * `length` bytes, any number of them, which are read and not written; it is not null even where `length` is 0. A record is numbers with
- * commas between them and CR LF at its end, which the last record may lack; each number may stand between double quotes. */
+/* The outcome of a trial sheet: the report of the search that it is, or a refusal (1 to 8, 10 to 12, 17), whose place is a record. `text` points
+ * to `length` bytes, any number of them, which are read and not written; it is not null even where `length` is 0. A record is numbers with
+ * commas between them and CR LF at its end, which the last record may lack; each number may stand between double quotes. The first record has
+ * the opening's five numbers, or four, and the share is then 0; every other has a point and its value. */
 struct busdekker_report busdekker_sheet(const uint8_t *text, size_t length);
 
 /*
- * Writes the clean sheet of *search at the beginning of the buffer: the opening with its method as held, then every answer, its point and its
- * value. No number has quotes, leading zeros or a minus before 0, and CR LF ends every record, the last included. The same search always yields
- * the same bytes, and slots at or past the count do not matter. busdekker_sheet of the text reports as busdekker_ask of the search: the text is
- * read as this search, with 0 in those slots. Bytes of the buffer past the sheet keep their contents. *search is read and not written.
+ * Writes the clean sheet of *search at the beginning of the buffer: the opening with its method as held, in four numbers where its share is 0
+ * and in five otherwise, then every answer, its point and its value. No number has quotes, leading zeros or a minus before 0, and CR LF ends
+ * every record, the last included. The same search always yields the same bytes, and slots at or past the count do not matter. busdekker_sheet
+ * of the text reports as busdekker_ask of the search: the text is read as this search, with 0 in those slots. Bytes of the buffer past the sheet
+ * keep their contents. *search is read and not written.
  * `buffer` points to `size` bytes, any number of them, no part of *search, that nobody else reads or writes while the call runs; it is not null
  * even where `size` is 0. BUSDEKKER_LONGEST_CLEAN_SHEET bytes are always enough.
- * A refusal writes nothing. The search itself is checked first (1 to 5, 7 to 9, with the place that busdekker_ask tells); then it is 13, place
- * 0, where `size` is below the sheet's length.
+ * A refusal writes nothing. The search itself is checked first (1 to 5, 7 to 9, 17, with the place that busdekker_ask tells); then it is 13,
+ * place 0, where `size` is below the sheet's length.
  */
 struct busdekker_written busdekker_write(const struct busdekker_search *search, uint8_t *buffer, size_t size);
 
@@ -273,8 +284,8 @@ uint32_t busdekker_dispatch_turn(const struct busdekker_dispatcher *dispatcher);
 /*
  * Makes the dryer's search a fresh search of the opening, as busdekker_open does. The other searches, the mark and all six counts stay: an
  * opening does not clear the dryer's own. The report calls for the first end.
- * A refusal (14, then 16, then 1 to 4) leaves *dispatcher as it was: a search on its way cannot be lost by an opening, and one that has stopped
- * stays until an accepted opening takes its place.
+ * A refusal (14, then 16, then 1 to 4, then 17) leaves *dispatcher as it was: a search on its way cannot be lost by an opening, and one that has
+ * stopped stays until an accepted opening takes its place.
  */
 struct busdekker_report busdekker_dispatch_open(struct busdekker_dispatcher *dispatcher, uint32_t dryer, struct busdekker_opening opening);
 
@@ -292,18 +303,19 @@ struct busdekker_report busdekker_dispatch_enter(struct busdekker_dispatcher *di
 struct busdekker_report busdekker_dispatch_ask(const struct busdekker_dispatcher *dispatcher, uint32_t dryer);
 
 /* The archive lays the structs out so. */
-BUSDEKKER_ASSERT(sizeof(struct busdekker_opening) == 16, "an opening has 16 bytes");
+BUSDEKKER_ASSERT(sizeof(struct busdekker_opening) == 20, "an opening has 20 bytes");
 BUSDEKKER_ASSERT(offsetof(struct busdekker_opening, first) == 4, "first stands at 4");
 BUSDEKKER_ASSERT(offsetof(struct busdekker_opening, second) == 8, "second stands at 8");
 BUSDEKKER_ASSERT(offsetof(struct busdekker_opening, tolerance) == 12, "tolerance stands at 12");
-BUSDEKKER_ASSERT(sizeof(struct busdekker_search) == 328, "a search has 328 bytes");
-BUSDEKKER_ASSERT(offsetof(struct busdekker_search, count) == 16, "count stands at 16");
-BUSDEKKER_ASSERT(offsetof(struct busdekker_search, slots) == 20, "slots stand at 20");
+BUSDEKKER_ASSERT(offsetof(struct busdekker_opening, share) == 16, "share stands at 16");
+BUSDEKKER_ASSERT(sizeof(struct busdekker_search) == 332, "a search has 332 bytes");
+BUSDEKKER_ASSERT(offsetof(struct busdekker_search, count) == 20, "count stands at 20");
+BUSDEKKER_ASSERT(offsetof(struct busdekker_search, slots) == 24, "slots stand at 24");
 BUSDEKKER_ASSERT(sizeof(struct busdekker_answer) == 8, "an answer has 8 bytes");
 BUSDEKKER_ASSERT(offsetof(struct busdekker_answer, value) == 4, "value stands at 4");
-BUSDEKKER_ASSERT(sizeof(struct busdekker_dispatcher) == 1996, "a dispatcher has 1,996 bytes");
-BUSDEKKER_ASSERT(offsetof(struct busdekker_dispatcher, last) == 1968, "last stands at 1,968");
-BUSDEKKER_ASSERT(offsetof(struct busdekker_dispatcher, counts) == 1972, "counts stand at 1,972");
+BUSDEKKER_ASSERT(sizeof(struct busdekker_dispatcher) == 2020, "a dispatcher has 2,020 bytes");
+BUSDEKKER_ASSERT(offsetof(struct busdekker_dispatcher, last) == 1992, "last stands at 1,992");
+BUSDEKKER_ASSERT(offsetof(struct busdekker_dispatcher, counts) == 1996, "counts stand at 1,996");
 BUSDEKKER_ASSERT(sizeof(struct busdekker_report) == 32, "a report has 32 bytes");
 BUSDEKKER_ASSERT(offsetof(struct busdekker_report, point) == 4, "point stands at 4");
 BUSDEKKER_ASSERT(offsetof(struct busdekker_report, lower) == 8, "lower stands at 8");
@@ -321,7 +333,7 @@ BUSDEKKER_ASSERT(sizeof(struct busdekker_written) == 16, "what is told of a writ
 BUSDEKKER_ASSERT(offsetof(struct busdekker_written, length) == 4, "length stands at 4");
 BUSDEKKER_ASSERT(offsetof(struct busdekker_written, number) == 8, "number stands at 8");
 BUSDEKKER_ASSERT(offsetof(struct busdekker_written, place) == 12, "place stands at 12");
-BUSDEKKER_ASSERT(sizeof(struct busdekker_answered) == 360, "a report and a search have 360 bytes");
+BUSDEKKER_ASSERT(sizeof(struct busdekker_answered) == 364, "a report and a search have 364 bytes");
 BUSDEKKER_ASSERT(offsetof(struct busdekker_answered, search) == 32, "the search stands at 32");
 
 #ifdef __cplusplus

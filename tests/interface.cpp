@@ -5,7 +5,7 @@
 #include <cstring>
 #include <string>
 
-static_assert(BUSDEKKER_LONGEST_CLEAN_SHEET == 1098, "the longest clean sheet has 1,098 bytes");
+static_assert(BUSDEKKER_LONGEST_CLEAN_SHEET == 1102, "the longest clean sheet has 1,102 bytes");
 
 // The highest point.
 static const int32_t highest = 60000;
@@ -16,9 +16,9 @@ static busdekker_report sheet(const std::string &text) {
 
 // The highest point is taken as an end, and the one above it refused, by each call that takes an opening. The search stays as it was then.
 static bool limits_of_ends() {
-    const busdekker_opening widest = {BUSDEKKER_R, highest, 0, 1};
-    const busdekker_opening first_above = {BUSDEKKER_R, highest + 1, 0, 1};
-    const busdekker_opening second_above = {BUSDEKKER_R, 0, highest + 1, 1};
+    const busdekker_opening widest = {BUSDEKKER_R, highest, 0, 1, 0};
+    const busdekker_opening first_above = {BUSDEKKER_R, highest + 1, 0, 1, 0};
+    const busdekker_opening second_above = {BUSDEKKER_R, 0, highest + 1, 1, 0};
     busdekker_search search;
     busdekker_dispatcher dispatcher = busdekker_dispatch_fresh();
     bool same = busdekker_quote(widest).t == 15 && busdekker_quote(widest).most == BUSDEKKER_SLOTS;
@@ -51,6 +51,48 @@ static bool limits_of_counts(busdekker_opening opening) {
     return same;
 }
 
+// A share of 100 is taken, and one outside 0 to 100 refused by each call that takes an opening, after a tolerance out of range. A search that
+// holds such a share, and a sheet with it, are refused so too. The quotation is the same for every share.
+static bool limits_of_shares() {
+    const busdekker_opening roaster = {BUSDEKKER_M, 1000, 1250, 1, 100};
+    uint8_t buffer[BUSDEKKER_LONGEST_CLEAN_SHEET];
+    busdekker_search search;
+    busdekker_dispatcher dispatcher = busdekker_dispatch_fresh();
+    bool same = busdekker_open(&search, roaster).kind == BUSDEKKER_NEXT && search.opening.share == 100;
+    same = same && busdekker_dispatch_open(&dispatcher, 0, roaster).kind == BUSDEKKER_NEXT && busdekker_quote(roaster).most == 30;
+    for (const int32_t share : {-1, 101}) {
+        const busdekker_opening refused = {BUSDEKKER_M, 1000, 1250, 1, share};
+        const busdekker_opening twice_refused = {BUSDEKKER_M, 1000, 1250, 0, share};
+        busdekker_search held = search;
+        held.opening.share = share;
+        same = same && busdekker_quote(refused).number == BUSDEKKER_SHARE_OUT_OF_RANGE;
+        same = same && busdekker_quote(twice_refused).number == BUSDEKKER_TOLERANCE_OUT_OF_RANGE;
+        same = same && busdekker_open(&search, refused).number == BUSDEKKER_SHARE_OUT_OF_RANGE;
+        same = same && busdekker_values(refused, search.slots, 0).number == BUSDEKKER_SHARE_OUT_OF_RANGE;
+        same = same && busdekker_dispatch_open(&dispatcher, 1, refused).number == BUSDEKKER_SHARE_OUT_OF_RANGE;
+        same = same && busdekker_ask(&held).number == BUSDEKKER_SHARE_OUT_OF_RANGE;
+        same = same && busdekker_enter(&held, 1000, -5).number == BUSDEKKER_SHARE_OUT_OF_RANGE;
+        same = same && busdekker_write(&held, buffer, 0).number == BUSDEKKER_SHARE_OUT_OF_RANGE;
+        const busdekker_report report = sheet("1,1000,1250,1," + std::to_string(share));
+        same = same && report.number == BUSDEKKER_SHARE_OUT_OF_RANGE && report.place == 1;
+    }
+    return same && search.opening.share == 100;
+}
+
+// The tolerance at 1250 is 1 + 125, and a bracket of 250 with its better end there stops; at 1000 it is 1 + 100, and the next point so far away.
+// The sheet has the share in a fifth field, and without it the search goes on from 1250 too.
+static bool tolerance_with_a_share() {
+    const busdekker_opening roaster = {BUSDEKKER_M, 1000, 1250, 1, 100};
+    const int32_t upper_better[] = {-5, 1}, lower_better[] = {1, -5};
+    const busdekker_report stop = busdekker_values(roaster, upper_better, 2);
+    bool same = stop.kind == BUSDEKKER_STOP && stop.upper - stop.lower == 250 && stop.better == 1250;
+    same = same && busdekker_values(roaster, lower_better, 2).point == 1101;
+    same = same && sheet("1,1000,1250,1,100\r\n1000,-5\r\n1250,1\r\n").kind == BUSDEKKER_STOP;
+    same = same && sheet("1,1000,1250,1\r\n1000,-5\r\n1250,1\r\n").kind == BUSDEKKER_NEXT;
+    same = same && sheet("1,1000,1250,1,0\r\n1000,-5\r\n1250,1\r\n").kind == BUSDEKKER_NEXT;
+    return same && sheet("1,1000,1250,1,100,0\r\n").number == BUSDEKKER_MALFORMED_RECORD;
+}
+
 // A sheet may have as many answers as there are slots; of the next one a byte is enough to be refused. The clean sheet of as many answers in
 // the longest spelling has the length that the header says.
 static bool limits_of_sheets() {
@@ -61,9 +103,9 @@ static bool limits_of_sheets() {
     const busdekker_report refused = sheet(text + "0");
     bool same = sheet(text).number == BUSDEKKER_UNKNOWN_METHOD;
     same = same && refused.number == BUSDEKKER_TOO_MANY_ANSWERS && refused.place == BUSDEKKER_SLOTS + 2;
-    const busdekker_opening opening = {BUSDEKKER_HOUSE, highest, highest - 1, 5000};
+    const busdekker_opening opening = {BUSDEKKER_HOUSE, highest, highest - 1, 5000, 100};
     const std::string point = std::to_string(highest);
-    const std::string first = "0," + point + "," + std::to_string(highest - 1) + ",5000\r\n", answer = point + ",-10000\r\n";
+    const std::string first = "0," + point + "," + std::to_string(highest - 1) + ",5000,100\r\n", answer = point + ",-10000\r\n";
     uint8_t buffer[BUSDEKKER_LONGEST_CLEAN_SHEET];
     busdekker_search search;
     same = same && busdekker_open(&search, opening).kind == BUSDEKKER_NEXT && busdekker_enter(&search, highest, -10000).kind == BUSDEKKER_NEXT;
@@ -96,8 +138,8 @@ static bool dispatches(busdekker_opening opening, busdekker_opening refused) {
 }
 
 int main() {
-    const busdekker_opening opening = {BUSDEKKER_M, 0, 2, 1};
-    const busdekker_opening refused = {BUSDEKKER_R, 7, 7, 1};
+    const busdekker_opening opening = {BUSDEKKER_M, 0, 2, 1, 0};
+    const busdekker_opening refused = {BUSDEKKER_R, 7, 7, 1, 0};
     const int32_t values[] = {-1, 1};
     const uint8_t text[] = {'1', ',', '0', ',', '2', ',', '1', '\r', '\n'};
     const char clean[] = "1,0,2,1\r\n0,-1\r\n";
@@ -116,6 +158,6 @@ int main() {
     const busdekker_written written = busdekker_write(&search, buffer, sizeof buffer);
     same = same && written.kind == BUSDEKKER_WRITTEN && written.length == sizeof clean - 1 && std::memcmp(buffer, clean, written.length) == 0;
     same = same && busdekker_write(&search, buffer, written.length - 1).number == BUSDEKKER_BUFFER_TOO_SHORT;
-    same = same && dispatches(opening, refused);
-    return same && limits_of_ends() && limits_of_counts(opening) && limits_of_sheets() ? 0 : 1;
+    same = same && dispatches(opening, refused) && limits_of_ends() && limits_of_shares() && tolerance_with_a_share();
+    return same && limits_of_counts(opening) && limits_of_sheets() ? 0 : 1;
 }

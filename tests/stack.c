@@ -1,9 +1,9 @@
 /*
  * The stack that the calls of include/busdekker.h need, measured. Each call is made by a function that does nothing else, on a stack that was
  * painted before; how far down the paint is gone, less what an empty function uses there, is what the call needs, with what its caller puts on
- * the stack to pass and return structs. Each call is tried at every answer of two long searches, by M and by R, and on refused openings; those
- * on a dispatcher at every answer of a morning with six such searches. The program prints the largest figure for each call, and exits 1 if one
- * is above its limit, BUSDEKKER_STACK or BUSDEKKER_DISPATCHER_STACK.
+ * the stack to pass and return structs. Each call is tried at every answer of four long searches, by M and by R, without a share and with one,
+ * and on refused openings; those on a dispatcher at every answer of a morning with six such searches. The program prints the largest figure for
+ * each call, and exits 1 if one is above its limit, BUSDEKKER_STACK or BUSDEKKER_DISPATCHER_STACK.
  */
 #define _XOPEN_SOURCE 700
 
@@ -169,7 +169,7 @@ static int above_limit(const struct call *calls, int count, size_t limit) {
     return above;
 }
 
-/* A line of the sheet. */
+/* A line of the sheet, or a part of one. */
 static void write_line(const char *format, int32_t a, int32_t b) {
     length += (size_t)snprintf(text + length, sizeof text - length, format, a, b);
 }
@@ -179,11 +179,12 @@ static int32_t value_after(uint32_t taken) {
     return taken == 0 ? -10000 : taken % 7 == 6 ? -1 : 1 + (int32_t)(taken % 3);
 }
 
-/* Every answer of a long search. */
-static void search_through(int32_t method) {
-    opening = (struct busdekker_opening){method, 0, HIGHEST, 1};
+/* Every answer of a long search from 0 to the highest point at the least tolerance. */
+static void search_through(int32_t method, int32_t share) {
+    opening = (struct busdekker_opening){method, 0, HIGHEST, 1, share};
     length = 0;
-    write_line("%" PRId32 ",0,%" PRId32 ",1\r\n", method, HIGHEST);
+    write_line("%" PRId32 ",0,%" PRId32, method, HIGHEST);
+    write_line(share == 0 ? ",%" PRId32 "\r\n" : ",%" PRId32 ",%" PRId32 "\r\n", opening.tolerance, share);
     struct busdekker_report report = busdekker_open(&search, opening);
     while (report.kind == BUSDEKKER_NEXT) {
         point = (int32_t)report.point;
@@ -200,7 +201,7 @@ static void morning_through(void) {
     dispatcher = busdekker_dispatch_fresh();
     measure(on_dispatchers, ON_DISPATCHERS);
     for (dryer = 0; dryer < BUSDEKKER_DRYERS; dryer++) {
-        opening = (struct busdekker_opening){dryer % 2 == 0 ? BUSDEKKER_M : BUSDEKKER_R, 0, HIGHEST - (int32_t)dryer, 1};
+        opening = (struct busdekker_opening){dryer % 2 == 0 ? BUSDEKKER_M : BUSDEKKER_R, 0, HIGHEST - (int32_t)dryer, 1, dryer < 4 ? 0 : 1};
         kinds += busdekker_dispatch_open(&dispatcher, dryer, opening).kind;
     }
     for (dryer = busdekker_dispatch_turn(&dispatcher); dryer != BUSDEKKER_NOBODY; dryer = busdekker_dispatch_turn(&dispatcher)) {
@@ -213,9 +214,11 @@ static void morning_through(void) {
 }
 
 int main(void) {
-    search_through(BUSDEKKER_M);
-    search_through(BUSDEKKER_R);
-    opening = (struct busdekker_opening){3, 0, HIGHEST, 1};
+    for (int32_t share = 0; share <= 1; share++) {
+        search_through(BUSDEKKER_M, share);
+        search_through(BUSDEKKER_R, share);
+    }
+    opening = (struct busdekker_opening){3, 0, HIGHEST, 1, 0};
     measure(on_searches, ON_SEARCHES);
     search.count = BUSDEKKER_SLOTS + 1;
     measure(on_searches, ON_SEARCHES);

@@ -61,11 +61,13 @@ fn children(nodes: &[Node], opening: &Opening, width: usize, rng: &mut Rng) -> V
     next.into_iter().filter(new).take(width).collect()
 }
 
-/// How long a state may still run: so many steps for each halving that is left, less the steps
-/// gone since the last. It is 2 to that power, so as to be a whole number.
+/// How long a state may still run: so many steps for each halving that is left until the bracket is
+/// as wide as the tolerance at its better end, less the steps gone since the last. It is 2 to that
+/// power, and the width 256 times as large, so as to be a whole number.
 fn promise(walk: &Walk, opening: &Opening) -> u128 {
     let steps = if opening.method == 2 { 5 } else { 4 };
-    (walk.length() as u128).pow(steps) << (steps - walk.streak().min(steps))
+    let width = 256 * walk.length() / walk.tolerance_at_b();
+    (width as u128).pow(steps) << (steps - walk.streak().min(steps))
 }
 
 /// Values worth a try: of either sign, near the better end's size and of every size.

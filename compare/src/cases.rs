@@ -45,8 +45,24 @@ pub const fn widest(method: i32) -> Opening {
     Opening::new(method, 0, HIGHEST, 1)
 }
 
-/// An opening with nothing wrong in it, of every width and every tolerance.
+/// An opening with nothing wrong in it, of every width, every tolerance and every share.
 pub fn accepted_opening(rng: &mut Rng) -> Opening {
+    let opening = opening_without_share(rng);
+    opening.with_share(share(rng))
+}
+
+/// A share in range: every second one is 0, and of the others every second one is at a limit or next
+/// to it.
+pub fn share(rng: &mut Rng) -> i32 {
+    match rng.below(8) {
+        0..=3 => 0,
+        4 | 5 => rng.pick(&[1, 99, 100]),
+        _ => rng.between(0, 100),
+    }
+}
+
+/// An opening with nothing wrong in it and a share of 0.
+pub fn opening_without_share(rng: &mut Rng) -> Opening {
     let method = rng.pick(&[0, 1, 1, 2, 2]);
     let first = end(rng);
     let mut second = first;
@@ -104,13 +120,14 @@ pub fn refused_opening(rng: &mut Rng) -> Opening {
     opening
 }
 
-/// Makes one of the four numbers wrong, or the ends equal.
+/// Makes one of the five numbers wrong, or the ends equal.
 fn spoil(opening: &mut Opening, rng: &mut Rng) {
-    match rng.below(5) {
+    match rng.below(6) {
         0 => opening.method = wrong(&[3, 4, 10], rng),
         1 => opening.first = wrong(&POINTS_ABOVE, rng),
         2 => opening.second = wrong(&POINTS_ABOVE, rng),
         3 => opening.second = opening.first,
+        4 => opening.share = wrong(&[101, 1_000, -100], rng),
         _ => opening.tolerance = wrong(&[0, 5_001], rng),
     }
 }

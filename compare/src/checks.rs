@@ -55,7 +55,7 @@ pub struct Tally {
     stop: u64,
     quoted: u64,
     written: u64,
-    refused: [u64; 17],
+    refused: [u64; 18],
 }
 
 impl Tally {

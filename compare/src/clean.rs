@@ -123,7 +123,7 @@ fn sheet_agrees(search: &Search, text: &[u8], rng: &mut Rng) -> Checked {
 }
 
 /// What the library writes of an accepted search.
-fn written(search: &Search) -> Text {
+pub fn written(search: &Search) -> Text {
     let mut buffer = vec![0; LONGEST_CLEAN_SHEET];
     let told = ffi::write(search, &mut buffer);
     buffer.truncate(told.length as usize);

@@ -6,7 +6,7 @@ use crate::types::{Answer, Answered, Dispatcher, Opening, Quotation, Report, Sea
 pub const WHO: &str = "the proved library, target/staticlib/libbusdekker.a";
 
 /// The version of the interface that is declared here.
-pub const VERSION: u32 = 6;
+pub const VERSION: u32 = 7;
 
 extern "C" {
     fn busdekker_version() -> u32;

@@ -18,6 +18,7 @@ pub mod oven;
 pub mod picture;
 pub mod plain;
 pub mod rng;
+pub mod shares;
 pub mod sheets;
 pub mod tables;
 pub mod types;

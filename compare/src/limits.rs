@@ -9,6 +9,7 @@ use crate::{ffi, model, sheets};
 
 const METHODS_AROUND: [i32; 5] = [-1, 0, 1, 2, 3];
 const TOLERANCES_AROUND: [i32; 4] = [0, 1, 5_000, 5_001];
+const SHARES_AROUND: [i32; 4] = [-1, 0, 100, 101];
 const POINTS_BELOW: [i32; 3] = [i32::MIN, -65_536, -1];
 
 /// Counts in range: the least, and those at the limit, now and before request 2026-06.
@@ -22,7 +23,10 @@ pub fn limits(_: &mut Rng, tally: &mut Tally) -> Checked {
         for &second in &ends {
             for method in METHODS_AROUND {
                 for tolerance in TOLERANCES_AROUND {
-                    opening_agrees(&Opening::new(method, first, second, tolerance), tally)?;
+                    let opening = Opening::new(method, first, second, tolerance);
+                    for share in SHARES_AROUND {
+                        opening_agrees(&opening.with_share(share), tally)?;
+                    }
                 }
             }
         }

@@ -12,7 +12,7 @@ use compare::model::{self, Book};
 use compare::oven::dispatchers;
 use compare::rng::Rng;
 use compare::types::{Opening, Report, Search};
-use compare::{beam, ffi, sheets};
+use compare::{beam, ffi, shares, sheets};
 use std::process::ExitCode;
 use std::time::Instant;
 
@@ -60,7 +60,7 @@ fn main() -> ExitCode {
 /// All parts in turn, and the number of cases.
 fn compare(rng: &mut Rng) -> Result<u64, String> {
     let mut cases = 0;
-    let parts: [(&str, Part); 10] = [
+    let parts: [(&str, Part); 15] = [
         ("lists of values", lists),
         ("runs of the trial book, from a fresh search", runs),
         ("calls in a row on searches that hold anything", held),
@@ -71,6 +71,14 @@ fn compare(rng: &mut Rng) -> Result<u64, String> {
         ("searches with numbers at and around the limits", limits),
         ("clean sheets, into buffers of many lengths", clean_sheets),
         ("calls on dispatchers, one after the other", dispatchers),
+        ("openings of every share, right and wrong", shares::openings),
+        (
+            "pairs of answers at the edges of the tolerance",
+            shares::pairs,
+        ),
+        ("runs with a share", shares::runs),
+        ("sheets with fields too many, or a share", shares::records),
+        ("clean sheets with a share and without", shares::round_trips),
     ];
     for (name, part) in parts {
         let start = Instant::now();
@@ -321,10 +329,10 @@ fn any_sheets(rng: &mut Rng, tally: &mut Tally) -> Checked {
     Ok(())
 }
 
-/// The last field of an opening and of an answer, and what may stand after it: every text of up to
-/// `ENDING` bytes of those that sheets are made of.
+/// The last field of an opening, with a share and without, and of an answer, and what may stand after
+/// it: every text of up to `ENDING` bytes of those that sheets are made of.
 fn every_ending(_: &mut Rng, tally: &mut Tally) -> Checked {
-    for start in [&b"1,0,100,"[..], b"1,0,100,1\r\n0,"] {
+    for start in [&b"1,0,100,"[..], b"1,0,100,1,", b"1,0,100,1\r\n0,"] {
         for length in 0..=ENDING {
             for which in 0..sheets::BYTES.len().pow(length) {
                 sheet_agrees(&[start, &sheets::ending(which, length)].concat(), tally)?;
@@ -395,15 +403,20 @@ fn branches_agree(
     Ok(())
 }
 
-/// The quote for every distance by each method and many tolerances, and for openings of any kind.
+/// The quote for every distance by each method and many tolerances, with any share, and for openings
+/// of any kind.
 fn quotes(rng: &mut Rng, tally: &mut Tally) -> Checked {
     let tolerances = [1, 2, 3, 4, 5, 7, 10, 50, 99, 100, 1_000, 4_999, 5_000];
     for distance in 1..=cases::HIGHEST {
         let low = rng.between(0, cases::HIGHEST - distance);
+        let high = low + distance;
         for tolerance in tolerances {
+            let share = cases::share(rng);
             for method in 0..=2 {
-                quote_agrees(&Opening::new(method, low, low + distance, tolerance), tally)?;
-                quote_agrees(&Opening::new(method, low + distance, low, tolerance), tally)?;
+                let upwards = Opening::new(method, low, high, tolerance);
+                let downwards = Opening::new(method, high, low, tolerance);
+                quote_agrees(&upwards.with_share(share), tally)?;
+                quote_agrees(&downwards.with_share(share), tally)?;
             }
         }
     }

@@ -4,6 +4,7 @@
 
 use crate::types::{Opening, Quotation, Report, Search, Written, SLOTS};
 use std::cmp::Ordering;
+use std::ops::RangeInclusive;
 
 /// An exact fraction. The denominator is above 0.
 #[derive(Clone, Copy, Debug)]
@@ -173,7 +174,7 @@ fn estimate(method: i32, list: &[Bracket]) -> Option<Ratio> {
     }
 }
 
-/// Rule 3: D.
+/// Rule 3: D, from the tolerance at b.
 fn displacement(u: Option<Ratio>, length: i128, tolerance: i128) -> i128 {
     let (zero, tau) = (Ratio::whole(0), Ratio::whole(tolerance));
     let half = Ratio::new(length, 2);
@@ -184,6 +185,12 @@ fn displacement(u: Option<Ratio>, length: i128, tolerance: i128) -> i128 {
     }
 }
 
+/// Request 2026-07: the tolerance at a point, τ plus the whole part of p·b/1,000.
+fn tolerance_at(opening: &Opening, b: Answer) -> i128 {
+    let part = Ratio::new(i128::from(opening.share) * b.point, 1_000);
+    i128::from(opening.tolerance) + part.floor()
+}
+
 /// Where a search stands: at the stop with this bracket, or with this point called for.
 enum Stand {
     Stop(Bracket),
@@ -192,19 +199,20 @@ enum Stand {
 
 /// Rules 1 to 8 applied to answers that were all accepted, of an accepted opening.
 fn stand(opening: &Opening, answers: &[Answer]) -> Stand {
-    let tolerance = i128::from(opening.tolerance);
     let list = brackets(answers);
-    match (answers.len(), list.last()) {
-        (0, _) => Stand::Call(opening.first.into()),
-        (_, None) => Stand::Call(opening.second.into()),
-        // Rule 2.
-        (_, Some(now)) if now.length() <= 2 * tolerance => Stand::Stop(*now),
-        (_, Some(now)) => {
-            let u = estimate(opening.method, &list);
-            let d = displacement(u, now.length(), tolerance);
-            Stand::Call(now.b.point + d * now.direction())
-        }
+    let now = match (answers.len(), list.last()) {
+        (0, _) => return Stand::Call(opening.first.into()),
+        (_, None) => return Stand::Call(opening.second.into()),
+        (_, Some(now)) => now,
+    };
+    let tolerance = tolerance_at(opening, now.b);
+    // Rule 2.
+    if now.length() <= 2 * tolerance {
+        return Stand::Stop(*now);
     }
+    let u = estimate(opening.method, &list);
+    let d = displacement(u, now.length(), tolerance);
+    Stand::Call(now.b.point + d * now.direction())
 }
 
 /// The report of answers that were all accepted.
@@ -219,7 +227,7 @@ fn report_of(opening: &Opening, answers: &[Answer]) -> Report {
     }
 }
 
-/// Refusals 1 to 4: the first that applies.
+/// Refusals 1 to 4, and then 17: the first that applies.
 pub fn refused_opening(opening: &Opening) -> Option<u32> {
     let end = 0..=60_000;
     if ![0, 1, 2].contains(&opening.method) {
@@ -230,6 +238,8 @@ pub fn refused_opening(opening: &Opening) -> Option<u32> {
         Some(3)
     } else if !(1..=5_000).contains(&opening.tolerance) {
         Some(4)
+    } else if !(0..=100).contains(&opening.share) {
+        Some(17)
     } else {
         None
     }
@@ -326,7 +336,8 @@ fn offered(search: &Search, point: i32, value: i32) -> Option<Report> {
     }
 }
 
-/// Demand 3's t, the least for which τ·2^(t+1) reaches the distance, and the most answers.
+/// Demand 3's t, the least for which τ·2^(t+1) reaches the distance, and the most answers. Both are
+/// from τ alone, whatever p is.
 pub fn quote(opening: &Opening) -> Quotation {
     if let Some(number) = refused_opening(opening) {
         return Quotation::refuse(number);
@@ -461,11 +472,16 @@ pub fn clean_text(text: &[u8]) -> Vec<u8> {
     }
 }
 
-/// The opening with its method as held, then every answer with its point.
+/// The opening with its method as held, and its share if it is not 0; then every answer with its
+/// point.
 fn clean_records(opening: &Opening, answers: &[Answer]) -> Vec<u8> {
     let o = opening;
-    let head = [o.method, o.first, o.second, o.tolerance];
-    let mut text = clean_record(&head.map(i128::from));
+    let mut head = vec![o.method, o.first, o.second, o.tolerance];
+    if o.share != 0 {
+        head.push(o.share);
+    }
+    let head: Vec<i128> = head.into_iter().map(i128::from).collect();
+    let mut text = clean_record(&head);
     for answer in answers {
         text += &clean_record(&[answer.point, answer.value]);
     }
@@ -490,7 +506,8 @@ pub fn sheet(text: &[u8]) -> Report {
 pub fn read(text: &[u8]) -> Result<Book, Report> {
     let rows = rows(text)?;
     let head = &rows[0];
-    let opening = Opening::new(head[0], head[1], head[2], head[3]);
+    let share = if head.len() == 5 { head[4] } else { 0 };
+    let opening = Opening::new(head[0], head[1], head[2], head[3]).with_share(share);
     if let Some(number) = refused_opening(&opening) {
         return Err(Report::refuse(number, 1));
     }
@@ -524,7 +541,7 @@ fn rows(text: &[u8]) -> Result<Vec<Vec<i32>>, Report> {
         if number == SLOTS + 2 {
             return Err(Report::refuse(11, number as u32));
         }
-        let fields = if number == 1 { 4 } else { 2 };
+        let fields = if number == 1 { 4..=5 } else { 2..=2 };
         match row(record, fields) {
             Some(row) => rows.push(row),
             None => return Err(Report::refuse(12, number as u32)),
@@ -551,10 +568,10 @@ fn records(text: &[u8]) -> Vec<&[u8]> {
 
 /// The numbers of a record that has so many fields. Only the last record can lack its CR LF, and there
 /// it is optional.
-fn row(record: &[u8], fields: usize) -> Option<Vec<i32>> {
+fn row(record: &[u8], fields: RangeInclusive<usize>) -> Option<Vec<i32>> {
     let line = record.strip_suffix(b"\r\n").unwrap_or(record);
     let row: Option<Vec<i32>> = line.split(|&byte| byte == b',').map(field).collect();
-    row.filter(|row| row.len() == fields)
+    row.filter(|row| fields.contains(&row.len()))
 }
 
 /// A number, or one between two double quotes.

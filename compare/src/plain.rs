@@ -8,6 +8,7 @@ use crate::types::{
 
 const HIGHEST_POINT: i32 = 60_000;
 const LARGEST_TOLERANCE: i32 = 5_000;
+const LARGEST_SHARE: i32 = 100;
 const LARGEST_VALUE: i32 = 10_000;
 const LONGEST_TEXT: usize = 4_096;
 const SERVED_CEILING: u32 = 1_000_000_000;
@@ -31,6 +32,7 @@ pub struct Walk {
     d: Sample,
     second: i64,
     tolerance: i64,
+    share: i64,
     length: i64,
     call: i64,
     taken: u32,
@@ -51,6 +53,7 @@ impl Walk {
             d: NONE,
             second: i64::from(opening.second),
             tolerance: i64::from(opening.tolerance),
+            share: i64::from(opening.share),
             length: 0,
             call: i64::from(opening.first),
             taken: 0,
@@ -82,6 +85,11 @@ impl Walk {
     /// The bracket's length; 0 below two answers.
     pub fn length(&self) -> i64 {
         self.length
+    }
+
+    /// The tolerance at the better end, from two answers on.
+    pub fn tolerance_at_b(&self) -> i64 {
+        self.tolerance + self.share * self.b.x / 1_000
     }
 
     /// The steps since the last that halved.
@@ -180,15 +188,16 @@ impl Walk {
 
     /// Sees whether the search has stopped, and if not, which point is called for.
     fn look(&mut self) {
-        self.stopped = self.length <= 2 * self.tolerance;
+        let tolerance = self.tolerance_at_b();
+        self.stopped = self.length <= 2 * tolerance;
         if !self.stopped {
-            let d = self.displacement();
+            let d = self.displacement(tolerance);
             self.call = self.b.x + if self.c.x > self.b.x { d } else { -d };
         }
     }
 
-    /// The distance of the next point from b.
-    fn displacement(&self) -> i64 {
+    /// The distance of the next point from b, by the tolerance there.
+    fn displacement(&self, tolerance: i64) -> i64 {
         let half = self.length / 2;
         let bisecting = if self.is_r { 4 } else { 3 };
         if self.streak == bisecting {
@@ -215,8 +224,8 @@ impl Walk {
         }
         if num < 0 || 2 * num > self.length * den {
             half
-        } else if num <= self.tolerance * den {
-            self.tolerance
+        } else if num <= tolerance * den {
+            tolerance
         } else {
             num / den
         }
@@ -237,7 +246,7 @@ impl Walk {
     }
 }
 
-/// Refusals 1 to 4.
+/// Refusals 1 to 4 and 17.
 fn check(opening: &Opening) -> Result<(), u32> {
     let points = 0..=HIGHEST_POINT;
     if !(0..=2).contains(&opening.method) {
@@ -248,6 +257,8 @@ fn check(opening: &Opening) -> Result<(), u32> {
         Err(3)
     } else if !(1..=LARGEST_TOLERANCE).contains(&opening.tolerance) {
         Err(4)
+    } else if !(0..=LARGEST_SHARE).contains(&opening.share) {
+        Err(17)
     } else {
         Ok(())
     }
@@ -375,13 +386,22 @@ impl Reader<'_> {
         let method = self.field()?;
         let first = self.field()?;
         let second = self.field()?;
-        let tolerance = self.last_field()?;
-        Some(Opening::new(method, first, second, tolerance))
+        let opening = Opening::new(method, first, second, self.unquoted()?);
+        let share = match self.rest.strip_prefix(b",") {
+            Some(rest) => {
+                self.rest = rest;
+                self.unquoted()?
+            }
+            None => 0,
+        };
+        self.line_end()?;
+        Some(opening.with_share(share))
     }
 
     fn answer(&mut self) -> Option<(i32, i32)> {
         let point = self.field()?;
-        let value = self.last_field()?;
+        let value = self.unquoted()?;
+        self.line_end()?;
         Some((point, value))
     }
 
@@ -392,13 +412,12 @@ impl Reader<'_> {
         Some(number)
     }
 
-    /// The last field of a record and its CR LF, or the end of the text.
-    fn last_field(&mut self) -> Option<i32> {
-        let number = self.unquoted()?;
+    /// The CR LF of a record, or the end of the text.
+    fn line_end(&mut self) -> Option<()> {
         if !self.rest.is_empty() {
             self.rest = self.rest.strip_prefix(b"\r\n")?;
         }
-        Some(number)
+        Some(())
     }
 
     /// A number, or one between two double quotes.
@@ -483,6 +502,10 @@ impl Writer<'_> {
         self.number(opening.second);
         self.byte(b',');
         self.number(opening.tolerance);
+        if opening.share != 0 {
+            self.byte(b',');
+            self.number(opening.share);
+        }
         self.line_end();
     }
 

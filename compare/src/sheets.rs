@@ -11,10 +11,11 @@ type Record = Vec<u8>;
 
 /// The sheet of an opening and answers, in the plainest spelling.
 pub fn write(opening: &Opening, answers: &[(i32, i32)]) -> Vec<u8> {
-    records(opening, answers, &mut |n| n.to_string()).concat()
+    records(opening, answers, false, &mut |n| n.to_string()).concat()
 }
 
-/// The same in some spelling that the reader takes: leading zeros, −0, quotes, and no CR LF at the end.
+/// The same in some spelling that the reader takes: leading zeros, −0, quotes, a share of 0 as a fifth
+/// field, and no CR LF at the end.
 pub fn write_spelt(opening: &Opening, answers: &[(i32, i32)], rng: &mut Rng) -> Vec<u8> {
     joined(&spelt(opening, answers, rng), rng)
 }
@@ -23,7 +24,8 @@ pub fn write_spelt(opening: &Opening, answers: &[(i32, i32)], rng: &mut Rng) -> 
 fn spelt(opening: &Opening, answers: &[(i32, i32)], rng: &mut Rng) -> Vec<Record> {
     // no field between quotes, some, or all
     let bare = rng.below(3);
-    records(opening, answers, &mut |n| match spell(n, rng) {
+    let share_of_0 = rng.once_in(2);
+    records(opening, answers, share_of_0, &mut |n| match spell(n, rng) {
         field if bare == 0 || (bare == 1 && rng.once_in(2)) => field,
         field => format!("\"{field}\""),
     })
@@ -38,9 +40,11 @@ fn joined(sheet: &[Record], rng: &mut Rng) -> Vec<u8> {
     text
 }
 
+/// A share of 0 is a field of its own only if `share_of_0` says so.
 fn records(
     opening: &Opening,
     answers: &[(i32, i32)],
+    share_of_0: bool,
     spell: &mut impl FnMut(i32) -> String,
 ) -> Vec<Record> {
     let Opening {
@@ -48,8 +52,12 @@ fn records(
         first,
         second,
         tolerance,
+        share,
     } = *opening;
     let mut rows = vec![vec![method, first, second, tolerance]];
+    if share_of_0 || share != 0 {
+        rows[0].push(share);
+    }
     rows.extend(answers.iter().map(|&(point, value)| vec![point, value]));
     let mut record = |row: &Vec<i32>| {
         let fields: Vec<String> = row.iter().map(|&n| spell(n)).collect();
@@ -137,7 +145,8 @@ fn counted(mut sheet: Vec<Record>, rng: &mut Rng) -> Vec<u8> {
     sheet.resize(1 + answers, b"7,-7\r\n".to_vec());
     if rng.once_in(2) {
         let back = rng.below(5);
-        sheet[answers - back] = rng.pick(&[&b"7,-7"[..], b"\r\n", b"7\r\n"]).to_vec();
+        let odd = rng.pick(&[&b"7,-7"[..], b"\r\n", b"7\r\n", b"7,-7,7\r\n"]);
+        sheet[answers - back] = odd.to_vec();
     }
     sheet.concat()
 }
@@ -199,7 +208,7 @@ const ENDINGS: [&[u8]; 9] = [
 ];
 
 /// Fields out of form, and a few that are odd but in form.
-const FIELDS: [&[u8]; 34] = [
+pub const FIELDS: [&[u8]; 34] = [
     b"",
     b"-",
     b"--1",
@@ -236,15 +245,19 @@ const FIELDS: [&[u8]; 34] = [
     b"00000",
 ];
 
-/// Puts something else in the place of a field, or leaves a field out.
+/// Puts something else in the place of a field, leaves a field out, or adds up to three.
 fn damage_field(record: &mut Record, rng: &mut Rng) {
     let line = &record[..record.len() - 2];
     let mut fields: Vec<&[u8]> = line.split(|&byte| byte == b',').collect();
     let at = rng.below(fields.len());
-    if rng.once_in(4) {
-        fields.remove(at);
-    } else {
-        fields[at] = rng.pick(&FIELDS);
+    match rng.below(6) {
+        0 => drop(fields.remove(at)),
+        1 => fields.push(rng.pick(&FIELDS)),
+        2 => {
+            let field: &[u8] = rng.pick(&[b"0", b"7", b"100", b"101"]);
+            fields.extend([field; 3].iter().take(1 + rng.below(3)));
+        }
+        _ => fields[at] = rng.pick(&FIELDS),
     }
     *record = [&fields.join(&b','), &b"\r\n"[..]].concat();
 }

@@ -12,11 +12,11 @@ pub const DRYERS: usize = 6;
 /// No dryer: the turn where none has it, and the mark where none was served.
 pub const NOBODY: u32 = 6;
 
-/// The bytes that the clean sheet of every search fits in: 20 for the opening and 14 for each
+/// The bytes that the clean sheet of every search fits in: 24 for the opening and 14 for each
 /// answer.
-pub const LONGEST_CLEAN_SHEET: usize = 20 + 14 * SLOTS;
+pub const LONGEST_CLEAN_SHEET: usize = 24 + 14 * SLOTS;
 
-/// An opening: method, x0, x1 and τ, each as it was offered.
+/// An opening: method, x0, x1, τ and p, each as it was offered.
 #[repr(C)]
 #[derive(Clone, Copy, Debug, PartialEq, Eq)]
 pub struct Opening {
@@ -24,16 +24,24 @@ pub struct Opening {
     pub first: i32,
     pub second: i32,
     pub tolerance: i32,
+    pub share: i32,
 }
 
 impl Opening {
+    /// One whose share is 0.
     pub const fn new(method: i32, first: i32, second: i32, tolerance: i32) -> Self {
         Opening {
             method,
             first,
             second,
             tolerance,
+            share: 0,
         }
+    }
+
+    /// The same with this share.
+    pub const fn with_share(self, share: i32) -> Self {
+        Opening { share, ..self }
     }
 }
 
@@ -253,18 +261,19 @@ pub struct Answered {
 
 // The layout that include/busdekker.h has.
 const _: () = {
-    assert!(size_of::<Opening>() == 16);
+    assert!(size_of::<Opening>() == 20);
     assert!(offset_of!(Opening, first) == 4);
     assert!(offset_of!(Opening, second) == 8);
     assert!(offset_of!(Opening, tolerance) == 12);
-    assert!(size_of::<Search>() == 328);
-    assert!(offset_of!(Search, count) == 16);
-    assert!(offset_of!(Search, slots) == 20);
+    assert!(offset_of!(Opening, share) == 16);
+    assert!(size_of::<Search>() == 332);
+    assert!(offset_of!(Search, count) == 20);
+    assert!(offset_of!(Search, slots) == 24);
     assert!(size_of::<Answer>() == 8);
     assert!(offset_of!(Answer, value) == 4);
-    assert!(size_of::<Dispatcher>() == 1_996);
-    assert!(offset_of!(Dispatcher, last) == 1_968);
-    assert!(offset_of!(Dispatcher, counts) == 1_972);
+    assert!(size_of::<Dispatcher>() == 2_020);
+    assert!(offset_of!(Dispatcher, last) == 1_992);
+    assert!(offset_of!(Dispatcher, counts) == 1_996);
     assert!(size_of::<Report>() == 32);
     assert!(offset_of!(Report, point) == 4);
     assert!(offset_of!(Report, lower) == 8);
@@ -282,6 +291,6 @@ const _: () = {
     assert!(offset_of!(Written, length) == 4);
     assert!(offset_of!(Written, number) == 8);
     assert!(offset_of!(Written, place) == 12);
-    assert!(size_of::<Answered>() == 360);
+    assert!(size_of::<Answered>() == 364);
     assert!(offset_of!(Answered, search) == 32);
 };

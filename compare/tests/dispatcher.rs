@@ -262,6 +262,41 @@ fn limits_of_a_search() {
     }
 }
 
+/// Each dryer's search has the share of its own opening: of two with the same answers one stops, and
+/// the other goes on, 250/6 rounded down from its better end. A share out of range is refused after a
+/// search on its way.
+#[test]
+fn shares_of_dryers() {
+    let shared = Opening::new(1, 1_000, 1_250, 1).with_share(100);
+    let refused = shared.with_share(101);
+    for calls in ALL {
+        let mut dispatcher = (calls.fresh)();
+        for (dryer, opening) in [(0, shared), (1, shared.with_share(0))] {
+            let report = (calls.open)(&mut dispatcher, dryer, &opening);
+            assert_eq!(report, Report::next(1_000, 0));
+            assert_eq!(dispatcher.searches[dryer as usize].opening, opening);
+        }
+        for (dryer, number) in [(6, 14), (0, 16), (1, 16), (2, 17)] {
+            calls.refuses_opening(&mut dispatcher, dryer, &refused, number);
+        }
+        let answers = [
+            (0, Answer::new(1_000, -5), Report::next(1_250, 1)),
+            (1, Answer::new(1_000, -5), Report::next(1_250, 1)),
+            (
+                0,
+                Answer::new(1_250, 1),
+                Report::stop(1_000, 1_250, 1_250, 2),
+            ),
+            (1, Answer::new(1_250, 1), Report::next(1_209, 2)),
+        ];
+        for (dryer, answer, report) in answers {
+            assert_eq!((calls.turn)(&dispatcher), dryer);
+            assert_eq!((calls.enter)(&mut dispatcher, dryer, answer), report);
+        }
+        calls.refuses_opening(&mut dispatcher, 0, &refused, 17);
+    }
+}
+
 /// Answers refused 6, 7 and 8 leave the turn; the place is the count of the dryer's search.
 #[test]
 fn refused_answers_leave_the_turn() {

@@ -121,6 +121,143 @@ fn trials_of_roasters() {
     trial(down, &[-7_721, 4_218, 2_198, 946, 162], "next,52858,5");
 }
 
+/// The opening of a roaster, request 2026-07: τ is 0.25 degrees and p two parts per thousand.
+fn roaster(first: i32, second: i32) -> Opening {
+    Opening::new(1, first, second, 25).with_share(2)
+}
+
+/// At b = 21,789 p·b/1,000 is 43.578, so the tolerance is 25 + 43 = 68. A bracket of 136 stops, and
+/// one of 137 does not; there u, 137/6, is below 68, and D is 68. Without the share it would be 25.
+#[test]
+fn trials_with_a_share() {
+    trial(
+        roaster(21_653, 21_789),
+        &[-5, 1],
+        "stop,21653,21789,21789,2",
+    );
+    trial(roaster(21_652, 21_789), &[-5, 1], "next,21721,2");
+    let without = roaster(21_652, 21_789).with_share(0);
+    trial(without, &[-5, 1], "next,21764,2");
+    // u = 272/4 is the tolerance itself, 276/4 is 69.
+    trial(roaster(21_517, 21_789), &[-3, 1], "next,21721,2");
+    trial(roaster(21_513, 21_789), &[-3, 1], "next,21720,2");
+    // examples/share.csv: after the fifth answer b is 21,727, where the tolerance is 25 + 43 too; u is
+    // 62 and a part, so D is 68.
+    let by_r = Opening::new(2, 18_000, 26_000, 25).with_share(2);
+    let values = [690, -169, -134, 41, 5, -1];
+    trial(by_r, &values[..5], "next,21795,5");
+    trial(by_r, &values, "stop,21727,21795,21795,6");
+    trial(by_r.with_share(0), &values[..5], "next,21789,5");
+}
+
+/// The better end counts. At 1,250 the tolerance is 1 + 125, twice that 252, and the bracket of 250
+/// stops; at 1,000 it is 1 + 100, and D is 101. In the middle it is 113: neither would stop.
+#[test]
+fn tolerance_at_the_better_end() {
+    let up = Opening::new(1, 1_000, 1_250, 1).with_share(100);
+    let down = Opening::new(1, 1_250, 1_000, 1).with_share(100);
+    trial(up, &[-5, 1], "stop,1000,1250,1250,2");
+    trial(down, &[1, -5], "stop,1000,1250,1250,2");
+    trial(up, &[1, -5], "next,1101,2");
+    trial(down, &[-5, 1], "next,1101,2");
+    // Of equal values the second is the better.
+    trial(up, &[1, -1], "stop,1000,1250,1250,2");
+    trial(down, &[1, -1], "next,1125,2");
+}
+
+/// At 999 one part per thousand is less than 1, and at 1,000 it is 1. At 60,000 the largest share
+/// makes the largest tolerance 11,000; at 0 it adds nothing.
+#[test]
+fn whole_parts_of_a_share() {
+    let one = |first, second| Opening::new(1, first, second, 1).with_share(1);
+    trial(one(996, 999), &[-5, 1], "next,998,2");
+    trial(one(997, 1_000), &[-5, 1], "stop,997,1000,1000,2");
+    trial(one(995, 1_000), &[-5, 1], "next,998,2");
+    let most = |first| Opening::new(1, first, 60_000, 5_000).with_share(100);
+    trial(most(38_000), &[-5, 1], "stop,38000,60000,60000,2");
+    trial(most(37_999), &[-5, 1], "next,49000,2");
+    trial(R.with_share(100), &[1, -50], "next,1,2");
+}
+
+/// 17 comes after 1 to 4, and after the form of the whole sheet and a count above the slots.
+#[test]
+fn shares_refused() {
+    let refused = [
+        (Opening::new(3, 7, 7, 0), 1),
+        (Opening::new(1, 7, 60_001, 0), 2),
+        (Opening::new(1, 7, 7, 0), 3),
+        (Opening::new(1, 7, 8, 0), 4),
+        (Opening::new(1, 7, 8, 1), 17),
+    ];
+    for share in [-1, 101, 1_000, -100, 256, 65_536, i32::MIN, i32::MAX] {
+        for (opening, number) in refused {
+            let opening = opening.with_share(share);
+            trial(opening, &[], &format!("refuse,{number},0"));
+            trial(opening, &[10_001], &format!("refuse,{number},0"));
+            for quote in [model::quote, plain::quote, ffi::quote] {
+                assert_eq!(quote(&opening), Quotation::refuse(number));
+            }
+        }
+    }
+    for share in [0, 1, 99, 100] {
+        trial(M.with_share(share), &[], "next,0,0");
+    }
+    sheet_trial(b"1,0,100,1,101\r\n0,-50\r\n", "refuse,17,1");
+    sheet_trial(b"1,0,100,0,101\r\n0,-50\r\n", "refuse,4,1");
+    sheet_trial(b"1,0,100,1,101\r\n0,-50\n", "refuse,12,2");
+    let mut search = Search::fresh(M.with_share(101));
+    for (count, refusal) in [
+        (1, Report::refuse(17, 0)),
+        (COUNT_ABOVE, Report::refuse(9, 0)),
+    ] {
+        search.count = count;
+        for ask in [model::ask, plain::ask, ffi::ask] {
+            assert_eq!(ask(&search), refusal);
+        }
+        for write in WRITERS {
+            let told = Written::refuse(refusal.number, 0);
+            assert_eq!(write(&search, &mut []), told);
+        }
+    }
+}
+
+/// A first record of four fields or five, in every spelling; one of six, or of answers with more
+/// than two, is out of form.
+#[test]
+fn records_with_a_share() {
+    let fifth = |field: &str| format!("1,0,100,1,{field}\r\n0,-50\r\n").into_bytes();
+    for field in [
+        "0",
+        "-0",
+        "-00000",
+        "7",
+        "100",
+        "\"7\"",
+        "00007",
+        "\"00100\"",
+    ] {
+        sheet_trial(&fifth(field), "next,100,1");
+    }
+    for field in ["-1", "101", "-00001", "99999", "\"-7\""] {
+        sheet_trial(&fifth(field), "refuse,17,1");
+    }
+    let wrong = [
+        "", "-", "x", " 7", "7 ", "+7", "7.0", "000007", "100000", "\"7", "7\"", "\"\"", "7,",
+        "7,0", "7\r", "7,\"\"",
+    ];
+    for field in wrong {
+        sheet_trial(&fifth(field), "refuse,12,1");
+    }
+    sheet_trial(b"1,0,100,1,7", "next,0,0");
+    sheet_trial(b"1,0,100,1,", "refuse,12,1");
+    sheet_trial(b"1,0,100,,7", "refuse,12,1");
+    sheet_trial(b"1,0,100", "refuse,12,1");
+    for more in [",0", ",", ",0,0", ",0,0,0"] {
+        let text = format!("1,0,100,1,7\r\n0,-50{more}\r\n");
+        sheet_trial(text.as_bytes(), "refuse,12,2");
+    }
+}
+
 #[test]
 fn the_sheet() {
     let sheet = b"1,0,100,1\r\n0,-50\r\n100,100\r\n33,-10\r\n41,-2\r\n43,1\r\n";
@@ -258,6 +395,9 @@ fn quotes() {
         assert_eq!(asked(2, 0, 32_768, 1), Quotation::quote(14, 72));
         assert_eq!(asked(2, 0, 32_769, 1), Quotation::quote(15, 77));
         assert_eq!(asked(2, 60_001, 0, 1), Quotation::refuse(2));
+        // Request 2026-07: from τ alone, though with this share the search stops after two answers.
+        let shared = Opening::new(2, 59_000, 60_000, 1).with_share(100);
+        assert_eq!(quote(&shared), Quotation::quote(9, 47));
         assert_eq!(asked(0, 0, 2, 1), Quotation::quote(0, 2));
         assert_eq!(asked(0, 0, 3, 1), Quotation::quote(1, 6));
         assert_eq!(asked(2, 0, 3, 1), Quotation::quote(1, 7));
@@ -401,14 +541,22 @@ fn long_records_of_clean_sheets() {
         &holding(Opening::new(2, HIGHEST, 0, 5_000), &[-10_000, 10_000]),
         &format!("2,{HIGHEST},0,5000\r\n{HIGHEST},-10000\r\n0,10000\r\n"),
     );
-    let opening = format!("0,{HIGHEST},{},5000\r\n", HIGHEST - 1);
+    let longest = Opening::new(0, HIGHEST, HIGHEST - 1, 5_000).with_share(100);
+    let opening = format!("0,{HIGHEST},{},5000,100\r\n", HIGHEST - 1);
     let answer = format!("{HIGHEST},-10000\r\n");
-    clean_trial(
-        &holding(Opening::new(0, HIGHEST, HIGHEST - 1, 5_000), &[-10_000]),
-        &format!("{opening}{answer}"),
-    );
-    let longest = opening.len() + answer.len() * SLOTS;
-    assert_eq!(longest, LONGEST_CLEAN_SHEET);
+    clean_trial(&holding(longest, &[-10_000]), &format!("{opening}{answer}"));
+    let length = opening.len() + answer.len() * SLOTS;
+    assert_eq!(length, LONGEST_CLEAN_SHEET);
+}
+
+/// A share is a fifth number, and of 0 there is none.
+#[test]
+fn clean_sheets_with_a_share() {
+    for (share, fifth) in [(0, ""), (1, ",1"), (10, ",10"), (100, ",100")] {
+        let search = holding(M.with_share(share), &[-50, 100]);
+        let sheet = format!("1,0,100,1{fifth}\r\n0,-50\r\n100,100\r\n");
+        clean_trial(&search, &sheet);
+    }
 }
 
 /// What the slots past the count hold is not seen.
@@ -460,6 +608,11 @@ fn sheets_cleaned() {
     assert_eq!(cleaned(clean), clean);
     assert_eq!(cleaned(""), "refuse,12,1\r\n");
     assert_eq!(cleaned("1,0,100,1\r\n1,-50\r\n"), "refuse,6,2\r\n");
+    for zero in ["0", "-0", "\"00000\""] {
+        assert_eq!(cleaned(&format!("1,0,100,1,{zero}")), "1,0,100,1\r\n");
+    }
+    assert_eq!(cleaned("1,0,100,1,\"007\""), "1,0,100,1,7\r\n");
+    assert_eq!(cleaned("1,0,100,1,101"), "refuse,17,1\r\n");
 }
 
 #[test]

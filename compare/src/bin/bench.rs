@@ -102,22 +102,27 @@ fn main() {
     );
     let mut rng = Rng::new(SEED);
     println!("\noperation                                   library ns    plain ns  library/plain");
-    let works = usual(USUAL, &mut rng);
-    table("usual", &works);
+    let works = usual(USUAL, |_| 0, &mut rng);
+    table("usual searches", &works);
     dispatchers(&works);
     let long = long(&mut rng);
-    table("long", &long);
+    table("long searches", &long);
     println!("an answer into the host's search, by the answers that it holds already:");
     let (by_m, by_r) = long.split_at(long.partition_point(|work| work.opening.method == 1));
-    growth("usual", &usual(MANY, &mut rng));
+    growth("usual", &usual(MANY, |_| 0, &mut rng));
     growth("long by M", by_m);
     growth("long by R", by_r);
+    let shared = usual(USUAL, |rng| rng.between(1, 100), &mut rng);
+    table("usual searches with a share", &shared);
 }
 
-/// Searches as ovens of every kind answer them.
-fn usual(count: usize, rng: &mut Rng) -> Vec<Work> {
-    let one = |_| Work::new(&cases::answered(cases::accepted_opening(rng), rng));
-    (0..count).map(one).collect()
+/// Searches as ovens of every kind answer them, each with one of these shares.
+fn usual(count: usize, share: fn(&mut Rng) -> i32, rng: &mut Rng) -> Vec<Work> {
+    let mut one = || {
+        let opening = cases::opening_without_share(rng).with_share(share(rng));
+        Work::new(&cases::answered(opening, rng))
+    };
+    (0..count).map(|_| one()).collect()
 }
 
 /// The longest searches that the beam finds over the whole range at τ = 1, by M and by R.
@@ -137,7 +142,7 @@ fn table(kind: &str, works: &[Work]) {
     let searches = works.len();
     let answers: usize = works.iter().map(|work| work.values.len()).sum();
     let mean = answers as f64 / searches as f64;
-    println!("{searches} {kind} searches of {mean:.1} answers in the mean:");
+    println!("{searches} {kind} of {mean:.1} answers in the mean:");
     line(
         "  an answer, into the host's search",
         works,

@@ -24,7 +24,7 @@ use rules::Row;
 pub extern "C" fn busdekker_version() -> u32
     ensures { λ r. ⌜ r ≡ version ⌝ }
 {
-    6
+    7
 }
 
 // t and the most answers that an opening may need.

@@ -1,6 +1,6 @@
 -- The clean sheet of a held search, as request 2026-02 says it: the opening with its method as held, then every answer with its point,
--- no quotes, no leading zeros, no −0, CR LF after every record; and what is told when it is to be written into a lent buffer. A text is
--- the list of its bytes.
+-- no quotes, no leading zeros, no −0, CR LF after every record; the opening in four fields where p is 0, as request 2026-07 says it; and what
+-- is told when it is to be written into a lent buffer. A text is the list of its bytes.
 -- Assumes nothing.
 use Prim.Native.Nat.{ℕ, suc, _+_, _*_}
 use mathlib.Core.Bool.{cond}
@@ -8,6 +8,7 @@ use mathlib.Core.List.{List, [], _∷_, _++_}
 use lib.Dec.{ltb}
 use lib.IntN.{ℤ, pos, negsuc}
 use lib.ListN.{length}
+use Rattle.integers.specs.Signs.{eqZ}
 use Rattle.rules.specs.declared.Opening.{Opening}
 use Rattle.rules.specs.declared.Answer.{Answer}
 use Rattle.rules.specs.declared.Progress.{Progress}
@@ -55,18 +56,26 @@ unfoldable pub answersText : List Answer → List ℕ
 answersText [] = []
 answersText (a ∷ answers) = numberText (a .point) ++ comma ∷ numberText (a .value) ++ cr ∷ lf ∷ answersText answers
 
--- method,x0,x1,τ and CR LF, then the answers
-unfoldable pub sheetText : Opening → List Answer → List ℕ
-sheetText o answers =
+-- a fifth field for p, or none where p is 0
+abbrev pub shareText : ℤ → List ℕ
+shareText p = cond (eqZ p (pos 0)) [] (comma ∷ numberText p)
+
+-- method,x0,x1,τ or method,x0,x1,τ,p
+unfoldable pub openingFields : Opening → List ℕ
+openingFields o =
     numberText (o .method) ++ comma ∷ numberText (o .first) ++ comma ∷ numberText (o .second) ++ comma ∷ numberText (o .tolerance)
-    ++ cr ∷ lf ∷ answersText answers
+    ++ shareText (o .share)
+
+-- the opening and CR LF, then the answers
+unfoldable pub sheetText : Opening → List Answer → List ℕ
+sheetText o answers = openingFields o ++ cr ∷ lf ∷ answersText answers
 
 unfoldable pub cleanOf : Search → List ℕ
 cleanOf s = sheetText (s .opening) (heldAnswers s)
 
--- the length of the longest: method 1, ends 5 each, τ 4, three commas and CR LF; for each slot point 5, comma, value 6 and CR LF
+-- the length of the longest: method 1, ends 5 each, τ 4, p 3, four commas and CR LF; for each slot point 5, comma, value 6 and CR LF
 abbrev pub longestSheet : ℕ
-longestSheet = 20 + 14 * slots
+longestSheet = 24 + 14 * slots
 
 -- ---- written into a lent buffer
 

@@ -22,14 +22,19 @@ use Rattle.lines.specs.Decimal.{decimalWithin, decimalOf, numberFields}
 use Rattle.printing.specs.Printed.{recordWith, recordOf, placed}
 use Rattle.outcomes.specs.Sheet.{outcomeOf, sheetOf}
 use Rattle.clean_sheets.specs.declared.Written.{Written}
-use Rattle.clean_sheets.specs.Clean.{withPoints, numberText, answersText, sheetText, cleanOf, longestSheet, writtenOf, bufferOf, cleanedOf, rewrittenOf}
+use Rattle.clean_sheets.specs.Clean.{withPoints, numberText, answersText, openingFields, sheetText, cleanOf, longestSheet, writtenOf, bufferOf}
+use Rattle.clean_sheets.specs.Clean.{cleanedOf, rewrittenOf}
 
 -- the values held, and 7 in the slots past them
 abbrev holds : Opening → List ℤ → Search
 holds o vs = record { opening = o; count = length vs; slots = take slots (vs ++ replicate slots (pos 7)) }
 
-abbrev opening : ℕ → ℕ → ℕ → ℕ → Opening
-opening method first second tolerance = record { method = pos method; first = pos first; second = pos second; tolerance = pos tolerance }
+abbrev sharing : (method first second tolerance share : ℕ) → Opening
+sharing method first second tolerance share =
+    record { method = pos method; first = pos first; second = pos second; tolerance = pos tolerance; share = pos share }
+
+abbrev opening : (method first second tolerance : ℕ) → Opening
+opening method first second tolerance = sharing method first second tolerance 0
 
 -- ---- the sheet of a search
 
@@ -51,6 +56,9 @@ sheets =
     -- document 01's trial to its stop
     ∷ sheet (holds upTo100 (negative 50 ∷ pos 100 ∷ negative 10 ∷ negative 2 ∷ pos 1 ∷ []))
     "1,0,100,1\r\n0,-50\r\n100,100\r\n33,-10\r\n41,-2\r\n43,1\r\n"
+    -- with a share: at 100 the tolerance is 1 + 10, so 89 is called for
+    ∷ sheet (holds (sharing 2 60000 0 5000 1) []) "2,60000,0,5000,1\r\n"
+    ∷ sheet (holds (sharing 1 100 0 1 100) (negative 2 ∷ pos 100 ∷ negative 10 ∷ [])) "1,100,0,1,100\r\n100,-2\r\n0,100\r\n89,-10\r\n"
     ∷ []
 
 abbrev AllClean : List Sheet → Type 0
@@ -60,11 +68,11 @@ AllClean (x ∷ xs) = (cleanOf (x .search) ≡ x .text) × AllClean xs
 sheets-hold : AllClean sheets
 unfolding methodOf toleranceAt startOf stoppedOf forwardOf displacementOf linearOf crossOf rationalOf doubledOf opposed partnerOf streakOf
     renewedOf advanceOf stepOf reachOf offsetOf nextOf openingRefusal answerRefusal sameSide beginOf offerOf takeOf decimalWithin decimalOf
-    withPoints numberText answersText sheetText cleanOf
-sheets-hold = (refl, (refl, (refl, (refl, (refl, tt)))))
+    withPoints numberText answersText openingFields sheetText cleanOf
+sheets-hold = (refl, (refl, (refl, (refl, (refl, (refl, (refl, tt)))))))
 
 -- the bound
-bound : longestSheet ≡ 1098
+bound : longestSheet ≡ 1102
 bound = refl
 
 -- ---- written into a buffer of so many bytes, all of them 9
@@ -102,7 +110,7 @@ AllWritten (x ∷ xs) =
 
 writings-hold : AllWritten writings
 unfolding openingRefusal answerRefusal sameSide beginOf offerOf takeOf progressOf reportAt standingOf heldReport decimalWithin decimalOf
-    withPoints numberText answersText sheetText cleanOf placed writtenOf bufferOf
+    withPoints numberText answersText openingFields sheetText cleanOf placed writtenOf bufferOf
 writings-hold = (refl, refl, (refl, refl, (refl, refl, (refl, refl, (refl, refl, (refl, refl, (refl, refl, tt)))))))
 
 -- ---- a sheet cleaned
@@ -120,7 +128,12 @@ cleanings =
     cleaning "\"01\",-0,00100,\"1\"\r\n-00,\"-050\"\r\n0100,00000" "1,0,100,1\r\n0,-50\r\n100,0\r\n"
     -- a clean sheet stays as it is
     ∷ cleaning "0,0,100,1\r\n0,-50\r\n" "0,0,100,1\r\n0,-50\r\n"
+    -- a fifth field of 0 is left out, and any other kept
+    ∷ cleaning "1,0,100,1,0\r\n" "1,0,100,1\r\n"
+    ∷ cleaning "1,0,100,1,-00" "1,0,100,1\r\n"
+    ∷ cleaning "1,0,100,1,\"020\"\r\n0,-50" "1,0,100,1,20\r\n0,-50\r\n"
     -- a refused one: its refusal's record
+    ∷ cleaning "1,0,100,1,101\r\n" "refuse,17,1\r\n"
     ∷ cleaning "1,0,100,1\r\n1,-50\r\n" "refuse,6,2\r\n"
     ∷ cleaning "" "refuse,12,1\r\n"
     ∷ []
@@ -133,5 +146,5 @@ cleanings-hold : AllCleaned cleanings
 unfolding toleranceAt startOf stoppedOf methodOf forwardOf displacementOf linearOf stepOf reachOf offsetOf nextOf openingRefusal answerRefusal sameSide
     beginOf offerOf takeOf answersOf bracketReport reportAt recordsOf fieldsOf allDigits valueFrom signedOf numberOf fieldOf answerOf
     openingOf refused opened entered answersFrom recordsRead entriesOf outcomeOf sheetOf decimalWithin decimalOf numberFields recordWith recordOf
-    withPoints numberText answersText sheetText cleanOf cleanedOf
-cleanings-hold = (refl, (refl, (refl, (refl, tt))))
+    withPoints numberText answersText openingFields sheetText cleanOf cleanedOf
+cleanings-hold = (refl, (refl, (refl, (refl, (refl, (refl, (refl, (refl, tt))))))))

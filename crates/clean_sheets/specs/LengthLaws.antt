@@ -2,18 +2,22 @@
 -- Assumes nothing.
 use Prim.Native.Nat.{ℕ, suc, _+_, _*_, _^_, _≤_, _<_}
 use mathlib.Core.Path.{_≡_}
+use mathlib.Core.Bool.{Bool, true, false, cond}
 use mathlib.Core.List.{List, [], _∷_}
 use native.Mathlib.Omega.{arith}
 use lib.IntN.{ℤ, pos, negsuc, natAbs}
 use lib.ListN.{length, length-append}
+use Rattle.integers.specs.Signs.{eqZ}
 use Rattle.rules.specs.declared.Opening.{Opening}
 use Rattle.rules.specs.declared.Answer.{Answer}
 use Rattle.rules.specs.declared.Progress.{Progress}
+use Rattle.rules.specs.Rules.{largestShare}
 use Rattle.rules.specs.RefusalsLaws.{Ranged, Opened}
 use Rattle.rules.specs.Search.{takeOf}
+use Rattle.forms.specs.Bytes.{comma}
 use Rattle.lines.specs.DecimalLaws.{decimal-length}
 use Rattle.journal.specs.SpellingLaws.{Spellable, SpellableAnswers}
-use Rattle.clean_sheets.specs.Clean.{calledAt, withPoints, numberText, answersText, sheetText}
+use Rattle.clean_sheets.specs.Clean.{calledAt, withPoints, numberText, answersText, shareText, openingFields, sheetText}
 
 -- ---- numbers
 
@@ -51,16 +55,25 @@ answers-short o p (v ∷ vs) h =
 sheet-length : (o : Opening) (answers : List Answer)
     → length (sheetText o answers)
     ≡ length (numberText (o .method)) + length (numberText (o .first)) + length (numberText (o .second)) + length (numberText (o .tolerance)) + 5
-    + length (answersText answers)
-unfolding sheetText
-sheet-length o answers = rw (length-append, length-append, length-append, length-append) (omega arith)
+    + length (shareText (o .share)) + length (answersText answers)
+unfolding sheetText openingFields
+sheet-length o answers = rw (length-append, length-append, length-append, length-append, length-append) (omega arith)
 
--- 20 bytes for the opening
-pub sheet-short : (o : Opening) (answers : List Answer) → Opened o → length (sheetText o answers) ≤ 20 + length (answersText answers)
+-- a comma and three digits, or nothing
+share-length : {p : ℤ} → Ranged 0 largestShare p → length (shareText p) ≤ 4
+share-length {p} r = go (eqZ p (pos 0))
+  where
+    go : (b : Bool) → length (cond b [] (comma ∷ numberText p)) ≤ 4
+    go true = omega arith
+    go false = omega (arith, length-ranged 2 r (omega arith))
+
+-- 24 bytes for the opening
+pub sheet-short : (o : Opening) (answers : List Answer) → Opened o → length (sheetText o answers) ≤ 24 + length (answersText answers)
 sheet-short o answers op =
     omega (
       arith,
       sheet-length o answers,
+      share-length (op .share),
       length-ranged 0 (op .method) (omega arith),
       length-ranged 4 (op .first) (omega arith),
       length-ranged 4 (op .second) (omega arith),

@@ -1,7 +1,7 @@
 // Clean sheets: what is told of one that is written. There is no function here: see specs/.
 
-// The length of the longest clean sheet: an opening of 20 bytes and 14 for each slot. A buffer of so many bytes takes every one.
-pub const LONGEST_SHEET: usize = 20 + 14 * rules::SLOTS;
+// The length of the longest clean sheet: an opening of 24 bytes and 14 for each slot. A buffer of so many bytes takes every one.
+pub const LONGEST_SHEET: usize = 24 + 14 * rules::SLOTS;
 
 // What is told of a sheet that was to be written into a buffer: its length, or a refusal.
 pub enum Written {

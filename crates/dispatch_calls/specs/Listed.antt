@@ -14,22 +14,23 @@ use Rattle.dispatching.specs.Calls.{Call, opening, answer, callOf}
 
 -- ---- the calls
 
--- kind 0 is an opening, with its method, ends and tolerance; any other is an answer, with its point and its value
-abbrev pub callWith : ℕ → ℕ → ℤ → ℤ → ℤ → ℤ → Call
-callWith kind dryer a b c e =
+-- kind 0 is an opening, with its method, ends, tolerance and share; any other is an answer, with its point and its value
+abbrev pub callWith : ℕ → ℕ → ℤ → ℤ → ℤ → ℤ → ℤ → Call
+callWith kind dryer a b c e f =
     cond (eqb kind 0)
-    (opening dryer (record { method = a; first = b; second = c; tolerance = e }))
+    (opening dryer (record { method = a; first = b; second = c; tolerance = e; share = f }))
     (answer dryer (record { point = a; value = b }))
 
 -- the numbers of a call
 abbrev pub callNumbers : ℕ
-callNumbers = 4
+callNumbers = 5
 
 -- the call at place i of the lists
 abbrev pub callAt : List ℕ → List ℕ → List ℤ → ℕ → Call
 callAt ks ds xs i =
     callWith (getD ks i 0) (getD ds i 0)
-    (getD xs (callNumbers * i) (pos 0)) (getD xs (callNumbers * i + 1) (pos 0)) (getD xs (callNumbers * i + 2) (pos 0)) (getD xs (callNumbers * i + 3) (pos 0))
+    (getD xs (callNumbers * i) (pos 0)) (getD xs (callNumbers * i + 1) (pos 0)) (getD xs (callNumbers * i + 2) (pos 0))
+    (getD xs (callNumbers * i + 3) (pos 0)) (getD xs (callNumbers * i + 4) (pos 0))
 
 -- as far as all three lists go, and as the lent list has room for their reports, each written as the numbers of its row
 abbrev pub howMany : List ℕ → List ℕ → List ℤ → List ℕ → ℕ

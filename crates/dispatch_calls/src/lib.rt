@@ -9,13 +9,13 @@ use rules::Answer;
 use rules::Opening;
 
 // The numbers that a call is written as, after its kind and its dryer; and those that its report is written as.
-pub const CALL_NUMBERS: usize = 4;
+pub const CALL_NUMBERS: usize = 5;
 
 pub const NUMBERS_EACH: usize = runs::NUMBERS_EACH;
 
 // A call from its numbers: kind 0 is an opening, any other an answer.
-fn call(kind: u8, d: Dispatcher, dryer: u32, a: i32, b: i32, c: i32, e: i32) -> Dispatched
-    ensures { λ r. ⌜ r ≡ callOf d (callWith kind dryer a b c e) ⌝ }
+fn call(kind: u8, d: Dispatcher, dryer: u32, a: i32, b: i32, c: i32, e: i32, f: i32) -> Dispatched
+    ensures { λ r. ⌜ r ≡ callOf d (callWith kind dryer a b c e f) ⌝ }
 {
     if kind == 0 {
         let opening = Opening {
@@ -23,6 +23,7 @@ fn call(kind: u8, d: Dispatcher, dryer: u32, a: i32, b: i32, c: i32, e: i32) -> 
             first: b,
             second: c,
             tolerance: e,
+            share: f,
         };
         dispatch::open(d, dryer, opening)
     } else {
@@ -62,6 +63,7 @@ pub fn call_at(
         numbers[at + 1],
         numbers[at + 2],
         numbers[at + 3],
+        numbers[at + 4],
     );
     let report = told.report;
     calls::put_row(rows, NUMBERS_EACH * i, rows::row_of(report));

@@ -22,13 +22,13 @@ use Rattle.dispatching.specs.Calls.{oldCountAfter, ownCalls, since, hist
 
 -- an opening of method M from 0 to 100, one from 0 to 1, and one with equal ends
 abbrev wide : Opening
-wide = record { method = pos 1; first = pos 0; second = pos 100; tolerance = pos 1 }
+wide = record { method = pos 1; first = pos 0; second = pos 100; tolerance = pos 1; share = pos 0 }
 
 abbrev narrow : Opening
-narrow = record { method = pos 1; first = pos 0; second = pos 1; tolerance = pos 1 }
+narrow = record { method = pos 1; first = pos 0; second = pos 1; tolerance = pos 1; share = pos 0 }
 
 abbrev equal : Opening
-equal = record { method = pos 1; first = pos 5; second = pos 5; tolerance = pos 1 }
+equal = record { method = pos 1; first = pos 5; second = pos 5; tolerance = pos 1; share = pos 0 }
 
 -- the answer that a fresh search of `wide` calls for, its point and a value of 1
 abbrev first : ℕ → Call

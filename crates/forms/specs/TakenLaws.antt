@@ -1,14 +1,14 @@
 -- What is read is a sheet: the other way round of ReadingLaws. Every text that is read is a list of rows, a row a list of fields, and
--- a field the bytes of a number, between double quotes or not: four fields to the opening, two to each answer, and no more answers than
+-- a field the bytes of a number, between double quotes or not: four or five fields to the opening, two to each answer, and no more answers than
 -- slots; CR LF after each row, or after each but the last.
 -- Assumes nothing.
 use Prim.Native.Nat.{ℕ, zero, suc, _+_, _≤_}
 use mathlib.Core.Path.{_≡_, refl, sym, ap, ap₂, subst, _∙_}
-use mathlib.Core.Bool.{Bool, true, false, cond}
+use mathlib.Core.Bool.{Bool, true, false, cond, _||_}
 use mathlib.Core.List.{List, [], _∷_, map, flatten}
 use native.Mathlib.Omega.{arith}
 use lib.ListN.{length}
-use lib.IntN.{ℤ}
+use lib.IntN.{ℤ, pos}
 use lib.Dec.{eqb, ltb}
 use borrow.Author.Tests.{eqb-true, eqb-false}
 use Rattle.rules.specs.declared.Opening.{Opening}
@@ -25,7 +25,7 @@ use Rattle.forms.specs.Entries.{refused, opened, entered, answersFrom, r
 use Rattle.forms.specs.TextLaws.{LineEnd, Lined, recordsWith, records-whole, records-lined}
 use Rattle.forms.specs.FieldLaws.{joined, fields-whole}
 use Rattle.forms.specs.NumberLaws.{both}
-use Rattle.forms.specs.ReadingLaws.{Spells, openingNumbers, SpellsAnswers}
+use Rattle.forms.specs.ReadingLaws.{Spells, openingNumbers, SpellsOpening, SpellsAnswers}
 
 -- ---- a record that is read is a row
 
@@ -96,15 +96,61 @@ answer-record r point value e =
     let z : integerAt ns 0 ∷ integerAt ns 1 ∷ [] ≡ point ∷ value ∷ [] = cc in
     subst (RecordText r) (all-integers 2 ns (d .count) ∙ z) (d .text)
 
-opening-record : (r : List ℕ) (o : Opening) → openingOf r ≡ OpeningRecord.Opened o → RecordText r (openingNumbers o)
+-- the opening's record is a row of four or of five
+pub record OpeningRow (r : List ℕ) (o : Opening) : Type 0 where
+  pub fields : List (List ℕ)
+  pub spelled : SpellsOpening fields o
+  pub whole : joined fields ≡ bodyOf r
+
+abbrev numbersIn : List ℕ → List Number
+numbersIn r = numbersOf (bodyOf r)
+
+-- what four or five numbers make
+abbrev openedBy : List Number → OpeningRecord
+openedBy ns = OpeningRecord.Opened (openingWith ns)
+
+module _ (r : List ℕ) (o : Opening) where
+  abbrev MadeOf : ℕ → Type 0
+  MadeOf k = Made k r openedBy (OpeningRecord.Opened o)
+
+  made-of : (k : ℕ) → cond (areNumbers k (numbersIn r)) (openedBy (numbersIn r)) OpeningRecord.Malformed ≡ OpeningRecord.Opened o → MadeOf k
+  made-of k = record-read k r openedBy OpeningRecord.Malformed (OpeningRecord.Opened o) (λ b. let n : _≡_ {A = ℕ} 0 1 = cc in omega arith)
+
+  opening-is : {k : ℕ} → MadeOf k → openingWith (numbersIn r) ≡ o
+  opening-is d = let m : openedBy (numbersIn r) ≡ OpeningRecord.Opened o = d .made in cc
+
+  row-of-four : MadeOf 4 → OpeningRow r o
+  row-of-four d =
+      let e : openingWith (numbersIn r) .share ≡ pos 0 = rw (d .count) refl in
+      let l = all-integers 4 (numbersIn r) (d .count) ∙ ap (λ (u : Opening). openingNumbers u []) (opening-is d) in
+      record {
+        fields = d .text .fields;
+        spelled = SpellsOpening.four (subst (Spells (d .text .fields)) l (d .text .spelled)) (sym (ap (λ (u : Opening). u .share) (opening-is d)) ∙ e);
+        whole = d .text .whole;
+      }
+
+  row-of-five : MadeOf 5 → OpeningRow r o
+  row-of-five d =
+      let e : integerAt (numbersIn r) 4 ≡ openingWith (numbersIn r) .share = rw (d .count) refl in
+      let l =
+      all-integers 5 (numbersIn r) (d .count)
+      ∙ ap (λ (z : ℤ). openingNumbers (openingWith (numbersIn r)) (z ∷ [])) e
+      ∙ ap (λ (u : Opening). openingNumbers u (u .share ∷ [])) (opening-is d) in
+      record {
+        fields = d .text .fields;
+        spelled = SpellsOpening.five (subst (Spells (d .text .fields)) l (d .text .spelled));
+        whole = d .text .whole;
+      }
+
+opening-record : (r : List ℕ) (o : Opening) → openingOf r ≡ OpeningRecord.Opened o → OpeningRow r o
 unfolding openingOf
-opening-record r o e =
-    let ns = numbersOf (bodyOf r) in
-    let d = record-read 4 r (λ ns. OpeningRecord.Opened (openingWith ns)) OpeningRecord.Malformed (OpeningRecord.Opened o)
-    (λ b. let n : _≡_ {A = ℕ} 0 1 = cc in omega arith) e in
-    let m : OpeningRecord.Opened (openingWith ns) ≡ OpeningRecord.Opened o = d .made in
-    let z : openingWith ns ≡ o = cc in
-    subst (RecordText r) (all-integers 4 ns (d .count) ∙ ap openingNumbers z) (d .text)
+opening-record r o = go (areNumbers 4 (numbersIn r)) refl
+  where
+    go : (b : Bool) → areNumbers 4 (numbersIn r) ≡ b
+        → cond (b || areNumbers 5 (numbersIn r)) (openedBy (numbersIn r)) OpeningRecord.Malformed ≡ OpeningRecord.Opened o
+        → OpeningRow r o
+    go true n h = row-of-four r o (made-of r o 4 (rw n h))
+    go false n h = row-of-five r o (made-of r o 5 h)
 
 -- ---- the answers' records are rows
 
@@ -167,13 +213,13 @@ pub record Laid (text : List ℕ) : Type 0 where
   pub points : List ℤ
   pub values : List ℤ
   pub end : List ℕ
-  pub spelled-head : Spells head (openingNumbers opening)
+  pub spelled-head : SpellsOpening head opening
   pub spelled-rows : SpellsAnswers rows points values
   pub line-end : LineEnd end
   pub few : length rows ≤ slots
   pub whole : flatten (recordsWith end (map joined (head ∷ rows))) ≡ text
 
-laid : (r : List ℕ) (rs : List (List ℕ)) (o : Opening) → Lined (r ∷ rs) → RecordText r (openingNumbers o) → AnswersTaken (opened o) rs
+laid : (r : List ℕ) (rs : List (List ℕ)) (o : Opening) → Lined (r ∷ rs) → OpeningRow r o → AnswersTaken (opened o) rs
     → Laid (flatten (r ∷ rs))
 unfolding opened
 laid r rs o l h t =

@@ -24,7 +24,7 @@ freshOf o = record { opening = o; count = 0; slots = replicate slots (pos 0) }
 
 -- what stands beside the refusal of an opening where there was no search: every number 0. Its ends are equal, so every call refuses it
 abbrev pub blank : Search
-blank = freshOf (record { method = pos 0; first = pos 0; second = pos 0; tolerance = pos 0 })
+blank = freshOf (record { method = pos 0; first = pos 0; second = pos 0; tolerance = pos 0; share = pos 0 })
 
 -- an opening offered to a search. Accepted: the report and a fresh search. Refused: the refusal, and the search as it was
 unfoldable pub reopenOf : Search → Opening → Entered

@@ -30,10 +30,12 @@ fn unanswered(opening: Opening) -> Search
 }
 
 impl Search {
-    // The limits: of a point, of the tolerance, of a value above and below 0, and of the answers kept.
+    // The limits: of a point, of the tolerance, of the share, of a value above and below 0, and of the answers kept.
     pub const HIGHEST: u32 = rules::HIGHEST;
 
     pub const LARGEST_TOLERANCE: u32 = rules::LARGEST_TOLERANCE;
+
+    pub const LARGEST_SHARE: u32 = rules::LARGEST_SHARE;
 
     pub const LARGEST_VALUE: u32 = rules::LARGEST_VALUE;
 
@@ -70,6 +72,7 @@ impl Search {
             first: 0,
             second: 0,
             tolerance: 0,
+            share: 0,
         };
         unanswered(nothing)
     }

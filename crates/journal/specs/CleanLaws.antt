@@ -18,8 +18,8 @@ use Rattle.rules.specs.declared.Opening.{Opening}
 use Rattle.rules.specs.declared.Answer.{Answer}
 use Rattle.rules.specs.Rules.{slots}
 use Rattle.forms.specs.Bytes.{cr, lf, comma, minus, doubleQuote}
-use Rattle.journal.specs.Spelling.{digit, Digits, Numeral, Field, AnswersText, SheetText}
-use Rattle.journal.specs.Spelling.{NoLeadingZero, CleanNumeral, CleanAnswers, CleanText, Clean}
+use Rattle.journal.specs.Spelling.{digit, Digits, Numeral, Field, AnswersText, OpeningText, SheetText}
+use Rattle.journal.specs.Spelling.{NoLeadingZero, CleanNumeral, CleanAnswers, CleanOpening, CleanText, Clean}
 use Rattle.journal.specs.SpellingLaws.{some-digit, spelled-read, reading}
 
 -- ---- a clean text is one that the reader takes
@@ -33,9 +33,12 @@ clean-answers : {t : List ℕ} {answers : List Answer} → CleanAnswers t answer
 clean-answers CleanAnswers.none = AnswersText.ended
 clean-answers (CleanAnswers.next p v r) = AnswersText.next (clean-field p) (clean-field v) (clean-answers r)
 
+clean-opening : {r : List ℕ} {o : Opening} → CleanOpening r o → OpeningText r o
+clean-opening (CleanOpening.four m x y w e) = OpeningText.four (clean-field m) (clean-field x) (clean-field y) (clean-field w) e
+clean-opening (CleanOpening.five m x y w p n) = OpeningText.five (clean-field m) (clean-field x) (clean-field y) (clean-field w) (clean-field p)
+
 pub clean-sheet : {t : List ℕ} {o : Opening} {answers : List Answer} → CleanText t o answers → SheetText t o answers
-clean-sheet (CleanText.sheet m x y w r) =
-    SheetText.sheet (clean-field m) (clean-field x) (clean-field y) (clean-field w) (clean-answers r)
+clean-sheet (CleanText.sheet head r) = SheetText.sheet (clean-opening head) (clean-answers r)
 
 -- ---- digits with no leading zero are those of one number only
 
@@ -95,73 +98,87 @@ one-answers CleanAnswers.none CleanAnswers.none = refl
 one-answers (CleanAnswers.next p v r) (CleanAnswers.next q w s) =
     λ i. one-numeral p q i ++ comma ∷ one-numeral v w i ++ cr ∷ lf ∷ one-answers r s i
 
+one-opening : {r s : List ℕ} {o : Opening} → CleanOpening r o → CleanOpening s o → r ≡ s
+one-opening (CleanOpening.four a b c d z) (CleanOpening.four e f g h w) =
+    λ i. one-numeral a e i ++ comma ∷ one-numeral b f i ++ comma ∷ one-numeral c g i ++ comma ∷ one-numeral d h i
+one-opening (CleanOpening.four a b c d z) (CleanOpening.five e f g h p n) = absurd (n z)
+one-opening (CleanOpening.five a b c d p n) (CleanOpening.four e f g h w) = absurd (n w)
+one-opening (CleanOpening.five a b c d p n) (CleanOpening.five e f g h q m) =
+    λ i. one-numeral a e i ++ comma ∷ one-numeral b f i ++ comma ∷ one-numeral c g i ++ comma ∷ one-numeral d h i ++ comma ∷ one-numeral p q i
+
 pub one-text : {t u : List ℕ} {o : Opening} {answers : List Answer} → CleanText t o answers → CleanText u o answers → t ≡ u
-one-text (CleanText.sheet a b c d r) (CleanText.sheet e f g h s) =
-    λ i. one-numeral a e i ++ comma ∷ one-numeral b f i ++ comma ∷ one-numeral c g i ++ comma ∷ one-numeral d h i ++ cr ∷ lf ∷ one-answers r s i
+one-text (CleanText.sheet a r) (CleanText.sheet b s) = λ i. one-opening a b i ++ cr ∷ lf ∷ one-answers r s i
 
--- ---- a text spells as many answers as it has commas, less three
+-- ---- a clean text has a line end for each record, and a text that spells n answers has no more than n + 1
 
-unfoldable commas : List ℕ → ℕ
-commas [] = 0
-commas (b ∷ s) = cond (eqb b comma) 1 0 + commas s
+unfoldable lineEnds : List ℕ → ℕ
+lineEnds [] = 0
+lineEnds (b ∷ s) = cond (eqb b lf) 1 0 + lineEnds s
 
-commas-append : (s t : List ℕ) → commas (s ++ t) ≡ commas s + commas t
-unfolding commas
-commas-append [] t = sym (zero-add (commas t))
-commas-append (b ∷ s) t = omega (arith, commas-append s t)
+ends-append : (s t : List ℕ) → lineEnds (s ++ t) ≡ lineEnds s + lineEnds t
+unfolding lineEnds
+ends-append [] t = sym (zero-add (lineEnds t))
+ends-append (b ∷ s) t = omega (arith, ends-append s t)
 
--- a byte that is no comma
-other-byte : (b : ℕ) (s : List ℕ) → (b ≡ comma → ⊥) → commas (b ∷ s) ≡ commas s
-unfolding commas
-other-byte b s h = simp (ne-eqb b comma h) (zero-add (commas s))
+-- a byte that is no LF
+other-byte : (b : ℕ) (s : List ℕ) → (b ≡ lf → ⊥) → lineEnds (b ∷ s) ≡ lineEnds s
+unfolding lineEnds
+other-byte b s h = simp (ne-eqb b lf h) (zero-add (lineEnds s))
 
-digits-commas : {s : List ℕ} {n : ℕ} → Digits s n → commas s ≡ 0
-unfolding commas
-digits-commas (Digits.one d h) = other-byte (digit d) [] (λ e. absurd (omega arith))
-digits-commas (Digits.more {s} r d h) =
-    omega (arith, commas-append s (digit d ∷ []), digits-commas r, other-byte (digit d) [] (λ e. absurd (omega arith)))
+digits-ends : {s : List ℕ} {n : ℕ} → Digits s n → lineEnds s ≡ 0
+unfolding lineEnds
+digits-ends (Digits.one d h) = other-byte (digit d) [] (λ e. absurd (omega arith))
+digits-ends (Digits.more {s} r d h) =
+    omega (arith, ends-append s (digit d ∷ []), digits-ends r, other-byte (digit d) [] (λ e. absurd (omega arith)))
 
-numeral-commas : {f : List ℕ} {z : ℤ} → Numeral f z → commas f ≡ 0
-unfolding commas
-numeral-commas (Numeral.plain r h) = digits-commas r
-numeral-commas (Numeral.negated {s} r h) = omega (arith, digits-commas r)
+numeral-ends : {f : List ℕ} {z : ℤ} → Numeral f z → lineEnds f ≡ 0
+unfolding lineEnds
+numeral-ends (Numeral.plain r h) = digits-ends r
+numeral-ends (Numeral.negated {s} r h) = omega (arith, digits-ends r)
 
-field-commas : {f : List ℕ} {z : ℤ} → Field f z → commas f ≡ 0
-unfolding commas
-field-commas (Field.bare n) = numeral-commas n
-field-commas (Field.enclosed {s} n) = omega (arith, commas-append s (doubleQuote ∷ []), numeral-commas n)
+field-ends : {f : List ℕ} {z : ℤ} → Field f z → lineEnds f ≡ 0
+unfolding lineEnds
+field-ends (Field.bare n) = numeral-ends n
+field-ends (Field.enclosed {s} n) = omega (arith, ends-append s (doubleQuote ∷ []), numeral-ends n)
 
-answers-commas : {t : List ℕ} {answers : List Answer} → AnswersText t answers → commas t ≡ length answers
-unfolding commas
-answers-commas AnswersText.unended = refl
-answers-commas AnswersText.ended = refl
-answers-commas (AnswersText.next {f} {g} {t} p v r) =
-    omega (arith, commas-append (f ++ comma ∷ g) t, commas-append f (comma ∷ g), field-commas p, field-commas v, answers-commas r)
+-- one field more, after a comma
+more-ends : (s : List ℕ) {f : List ℕ} {z : ℤ} → lineEnds s ≡ 0 → Field f z → lineEnds (s ++ comma ∷ f) ≡ 0
+unfolding lineEnds
+more-ends s {f} e h = omega (arith, ends-append s (comma ∷ f), field-ends h)
 
-sheet-commas : {t : List ℕ} {o : Opening} {answers : List Answer} → SheetText t o answers → commas t ≡ 3 + length answers
-unfolding commas
-sheet-commas (SheetText.sheet {f} {g} {h} {k} {t} m x y w r) =
-    let a = f ++ comma ∷ g in
-    let b = a ++ comma ∷ h in
-    let c = b ++ comma ∷ k in
-    omega (
-      arith,
-      commas-append c t,
-      commas-append b (comma ∷ k),
-      commas-append a (comma ∷ h),
-      commas-append f (comma ∷ g),
-      field-commas m,
-      field-commas x,
-      field-commas y,
-      field-commas w,
-      answers-commas r,
-    )
+opening-ends : {r : List ℕ} {o : Opening} → OpeningText r o → lineEnds r ≡ 0
+opening-ends (OpeningText.four {f} {g} {h} m x y w e) =
+    more-ends (f ++ comma ∷ g ++ comma ∷ h) (more-ends (f ++ comma ∷ g) (more-ends f (field-ends m) x) y) w
+opening-ends (OpeningText.five {f} {g} {h} {k} m x y w p) =
+    let three = more-ends (f ++ comma ∷ g) (more-ends f (field-ends m) x) y in
+    more-ends (f ++ comma ∷ g ++ comma ∷ h ++ comma ∷ k) (more-ends (f ++ comma ∷ g ++ comma ∷ h) three w) p
+
+answers-ends : {t : List ℕ} {answers : List Answer} → AnswersText t answers → lineEnds t ≤ 1 + length answers
+unfolding lineEnds
+answers-ends AnswersText.unended = omega arith
+answers-ends AnswersText.ended = omega arith
+answers-ends (AnswersText.next {f} {g} {t} p v r) =
+    omega (arith, ends-append (f ++ comma ∷ g) t, more-ends f (field-ends p) v, answers-ends r)
+
+sheet-ends : {text : List ℕ} {o : Opening} {answers : List Answer} → SheetText text o answers → lineEnds text ≤ 1 + length answers
+sheet-ends (SheetText.sheet {r} {t} head a) = omega (arith, ends-append r t, opening-ends head, answers-ends a)
+
+clean-ends : {t : List ℕ} {answers : List Answer} → CleanAnswers t answers → lineEnds t ≡ length answers
+unfolding lineEnds
+clean-ends CleanAnswers.none = refl
+clean-ends (CleanAnswers.next {f} {g} {t} p v r) =
+    omega (arith, ends-append (f ++ comma ∷ g) (cr ∷ lf ∷ t), more-ends f (field-ends (clean-field p)) (clean-field v), clean-ends r)
+
+cleaned-ends : {text : List ℕ} {o : Opening} {answers : List Answer} → CleanText text o answers → lineEnds text ≡ 1 + length answers
+unfolding lineEnds
+cleaned-ends (CleanText.sheet {r} {t} head a) =
+    omega (arith, ends-append r (cr ∷ lf ∷ t), opening-ends (clean-opening head), clean-ends a)
 
 -- ---- so a clean text that spells an opening and no more answers than a search holds is their clean text
 
 pub clean-spells : {text : List ℕ} {o : Opening} {answers : List Answer} → Clean text → SheetText text o answers → length answers ≤ slots
     → CleanText text o answers
 clean-spells {text} {o} {answers} c s few =
-    let same : length (c .1) ≡ length answers = omega (arith, sheet-commas s, sheet-commas (clean-sheet (c .2))) in
+    let fewer : length (c .1) ≤ length answers = omega (arith, sheet-ends s, cleaned-ends (c .2)) in
     let e = reading text .once (c .0) o (c .1) answers (spelled-read (clean-sheet (c .2)) (omega arith)) (spelled-read s few) in
     subst₂ (CleanText text) (e .0) (e .1) (c .2)

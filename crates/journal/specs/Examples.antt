@@ -6,7 +6,7 @@ use mathlib.Core.Path.{_≡_, refl, sym, ap, subst, _∙_}
 use mathlib.Core.Logic.{inl, inr}
 use mathlib.Core.List.{List, [], _∷_, _++_, map, zipWith}
 use native.Mathlib.Omega.{arith}
-use lib.IntN.{ℤ, pos}
+use lib.IntN.{ℤ, pos, natAbs}
 use lib.ListN.{length, take}
 use Rattle.integers.specs.Digits.{digits, halvings}
 use Rattle.rules.specs.declared.Opening.{Opening}
@@ -23,10 +23,12 @@ use Rattle.held.specs.Held.{freshOf, standingOf, heldReport, enterOf}
 use Rattle.forms.specs.declared.Number.{Number}
 use Rattle.forms.specs.Number.{allDigits, valueFrom, signedOf, numberOf}
 use Rattle.forms.specs.Entries.{integerOf, fieldOf}
-use Rattle.forms.specs.Examples.{bytes, upTo100, negative}
-use Rattle.journal.specs.Spelling.{digit, Digits, Numeral, Field, AnswersText, SheetText, CleanNumeral, CleanAnswers, CleanText}
+use Rattle.forms.specs.Bytes.{cr, lf}
+use Rattle.forms.specs.Examples.{bytes, upTo100With, upTo100, negative}
+use Rattle.journal.specs.Spelling.{digit, Digits, Numeral, Field, AnswersText, OpeningText, SheetText}
+use Rattle.journal.specs.Spelling.{CleanNumeral, CleanAnswers, CleanOpening, CleanText, Clean}
 use Rattle.journal.specs.SpellingLaws.{field-read}
-use Rattle.journal.specs.CleanLaws.{clean-field, one-numeral}
+use Rattle.journal.specs.CleanLaws.{clean-field, one-numeral, one-text, clean-spells}
 use Rattle.journal.specs.Journal.{stopOf, pointCalled, journalReport, refusalOf, journalWith, toldOf, journalAfter, toldAll, bracketsOf}
 use Rattle.journal.specs.Run.{Call, byValue, into, offered, reportsOf, searchAfter, journalOf}
 
@@ -104,7 +106,7 @@ worked-run = record { told = refl; journal = refl; brackets = refl; running = re
 -- ---- the bound is reached: by M from 0 to 2 with τ 1, t is 0, two answers may be needed, and with the second the search stops
 
 abbrev upTo2 : Opening
-upTo2 = record { method = pos 1; first = pos 0; second = pos 2; tolerance = pos 1 }
+upTo2 = record { method = pos 1; first = pos 0; second = pos 2; tolerance = pos 1; share = pos 0 }
 
 abbrev twoCalls : List Call
 twoCalls = byValue (answer (pos 0) (negative 1)) ∷ into (answer (pos 2) (pos 1)) ∷ []
@@ -148,8 +150,10 @@ enclosed-fifty = Field.enclosed minus-fifty
 -- an opening alone, with its line end and without
 no-answer : {t : List ℕ} → AnswersText t [] → SheetText (bytes "1,0,100,1" ++ t) upTo100 []
 no-answer r =
-    SheetText.sheet (Field.bare (one-digit 1 (omega arith))) (Field.bare (one-digit 0 (omega arith))) (Field.bare hundred)
-    (Field.bare (one-digit 1 (omega arith))) r
+    SheetText.sheet
+    (OpeningText.four (Field.bare (one-digit 1 (omega arith))) (Field.bare (one-digit 0 (omega arith))) (Field.bare hundred)
+    (Field.bare (one-digit 1 (omega arith))) refl)
+    r
 
 opening-ended : SheetText (bytes "1,0,100,1\r\n") upTo100 []
 opening-ended = no-answer AnswersText.ended
@@ -157,10 +161,26 @@ opening-ended = no-answer AnswersText.ended
 opening-unended : SheetText (bytes "1,0,100,1") upTo100 []
 opening-unended = no-answer AnswersText.unended
 
+-- with a fifth field, for p
+with-share : {f : List ℕ} {p : ℤ} → Field f p → SheetText (bytes "1,0,100,1," ++ f ++ cr ∷ lf ∷ []) (upTo100With p) []
+with-share h =
+    SheetText.sheet
+    (OpeningText.five (Field.bare (one-digit 1 (omega arith))) (Field.bare (one-digit 0 (omega arith))) (Field.bare hundred)
+    (Field.bare (one-digit 1 (omega arith))) h)
+    AnswersText.ended
+
+tenth : SheetText (bytes "1,0,100,1,\"100\"\r\n") (upTo100With (pos 100)) []
+tenth = with-share (Field.enclosed hundred)
+
+-- a fifth field of 0 is the same opening as none
+no-share : SheetText (bytes "1,0,100,1,-0\r\n") upTo100 []
+no-share = with-share (Field.bare minus-zero)
+
 -- with −0, with leading zeros, and with some fields between double quotes; the last line end is absent
 two-answers : SheetText (bytes "1,-0,\"100\",1\r\n-0,\"-50\"\r\n100,00042") upTo100 (answer (pos 0) (negative 50) ∷ answer (pos 100) (pos 42) ∷ [])
 two-answers =
-    SheetText.sheet (Field.bare (one-digit 1 (omega arith))) (Field.bare minus-zero) (Field.enclosed hundred) (Field.bare (one-digit 1 (omega arith)))
+    SheetText.sheet
+    (OpeningText.four (Field.bare (one-digit 1 (omega arith))) (Field.bare minus-zero) (Field.enclosed hundred) (Field.bare (one-digit 1 (omega arith))) refl)
     (AnswersText.next (Field.bare minus-zero) enclosed-fifty
     (AnswersText.next (Field.bare hundred) (Field.bare leading-zeros) AnswersText.unended))
 
@@ -178,8 +198,30 @@ clean-minus-fifty = CleanNumeral.negated (Digits.more (Digits.one 5 (omega arith
 
 one-clean-answer : CleanText (bytes "1,0,100,1\r\n0,-50\r\n") upTo100 (answer (pos 0) (negative 50) ∷ [])
 one-clean-answer =
-    CleanText.sheet (clean-digit 1 (omega arith)) (clean-digit 0 (omega arith)) clean-hundred (clean-digit 1 (omega arith))
+    CleanText.sheet (CleanOpening.four (clean-digit 1 (omega arith)) (clean-digit 0 (omega arith)) clean-hundred (clean-digit 1 (omega arith)) refl)
     (CleanAnswers.next (clean-digit 0 (omega arith)) clean-minus-fifty CleanAnswers.none)
+
+-- four fields where p is 0, five where it is not
+clean-without-share : CleanText (bytes "1,0,100,1\r\n") upTo100 []
+clean-without-share =
+    CleanText.sheet (CleanOpening.four (clean-digit 1 (omega arith)) (clean-digit 0 (omega arith)) clean-hundred (clean-digit 1 (omega arith)) refl)
+    CleanAnswers.none
+
+clean-with-share : CleanText (bytes "1,0,100,1,100\r\n") (upTo100With (pos 100)) []
+clean-with-share =
+    CleanText.sheet
+    (CleanOpening.five (clean-digit 1 (omega arith)) (clean-digit 0 (omega arith)) clean-hundred (clean-digit 1 (omega arith)) clean-hundred
+    (λ e. let n : _≡_ {A = ℕ} 100 0 = ap natAbs e in absurd (omega arith)))
+    CleanAnswers.none
+
+-- a fifth field of 0 is taken, but not clean
+zero-share : SheetText (bytes "1,0,100,1,0\r\n") upTo100 []
+zero-share = with-share (Field.bare (one-digit 0 (omega arith)))
+
+no-zero-share : Clean (bytes "1,0,100,1,0\r\n") → ⊥
+no-zero-share c =
+    let one = one-text (clean-spells c zero-share (omega arith)) clean-without-share in
+    absurd (omega (arith, ap length one))
 
 -- a field that is read as d is clean only if it is that digit's byte
 unclean : (f : List ℕ) (d : ℕ) → d ≤ 9 → fieldOf f ≡ Number.Is (pos d) → 1 < length f → (z : ℤ) → CleanNumeral f z → ⊥

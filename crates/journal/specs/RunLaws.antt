@@ -239,6 +239,7 @@ spellable-opening o op =
       first = spellable-range (op .first) (omega arith);
       second = spellable-range (op .second) (omega arith);
       tolerance = spellable-range (op .tolerance) (omega arith);
+      share = spellable-range (op .share) (omega arith);
     }
 
 spellable-point : (z : ℤ) (n : ℕ) → z ≡ pos n → n ≤ highest → Spellable z

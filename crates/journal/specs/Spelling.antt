@@ -1,6 +1,7 @@
 -- The spelling of a trial sheet, as document 01 says it under "Held searches and sheets", with line ends and quotes as request 2026-01
--- has them: which bytes spell which numbers. Then the clean spelling of request 2026-02, one of them. Both are relations of their own
--- between bytes and numbers, and know nothing of how a sheet is read or written. A text is the list of its bytes.
+-- has them, and the fifth field of the first record as request 2026-07 has it: which bytes spell which numbers. Then the clean spelling of
+-- request 2026-02, one of them. Both are relations of their own between bytes and numbers, and know nothing of how a sheet is read or written. A
+-- text is the list of its bytes.
 -- Assumes nothing.
 use Prim.Native.Nat.{ℕ, _+_, _*_, _≤_, _<_}
 use mathlib.Core.Path.{_≡_}
@@ -45,11 +46,17 @@ pub data AnswersText : List ℕ → List Answer → Type 0 where
   next : {f g t : List ℕ} {a : Answer} {answers : List Answer} → Field f (a .point) → Field g (a .value) → AnswersText t answers
       → AnswersText (cr ∷ lf ∷ f ++ comma ∷ g ++ t) (a ∷ answers)
 
--- The first record is method,x0,x1,τ. There is no header.
+-- The first record is method,x0,x1,τ or method,x0,x1,τ,p; with four fields p is 0. There is no header.
+pub data OpeningText : List ℕ → Opening → Type 0 where
+  four : {f g h k : List ℕ} {o : Opening}
+      → Field f (o .method) → Field g (o .first) → Field h (o .second) → Field k (o .tolerance) → o .share ≡ pos 0
+      → OpeningText (f ++ comma ∷ g ++ comma ∷ h ++ comma ∷ k) o
+  five : {f g h k l : List ℕ} {o : Opening}
+      → Field f (o .method) → Field g (o .first) → Field h (o .second) → Field k (o .tolerance) → Field l (o .share)
+      → OpeningText (f ++ comma ∷ g ++ comma ∷ h ++ comma ∷ k ++ comma ∷ l) o
+
 pub data SheetText : List ℕ → Opening → List Answer → Type 0 where
-  sheet : {f g h k t : List ℕ} {o : Opening} {answers : List Answer}
-      → Field f (o .method) → Field g (o .first) → Field h (o .second) → Field k (o .tolerance) → AnswersText t answers
-      → SheetText (f ++ comma ∷ g ++ comma ∷ h ++ comma ∷ k ++ t) o answers
+  sheet : {r t : List ℕ} {o : Opening} {answers : List Answer} → OpeningText r o → AnswersText t answers → SheetText (r ++ t) o answers
 
 -- ---- clean sheets: no quotes, no leading zeros, no −0, CR LF after every record
 
@@ -69,12 +76,20 @@ pub data CleanAnswers : List ℕ → List Answer → Type 0 where
       → CleanNumeral f (a .point) → CleanNumeral g (a .value) → CleanAnswers t answers
       → CleanAnswers (f ++ comma ∷ g ++ cr ∷ lf ∷ t) (a ∷ answers)
 
--- The first record is method,x0,x1,τ and CR LF.
-pub data CleanText : List ℕ → Opening → List Answer → Type 0 where
-  sheet : {f g h k t : List ℕ} {o : Opening} {answers : List Answer}
+-- The first record is method,x0,x1,τ where p is 0, and method,x0,x1,τ,p otherwise; and CR LF.
+pub data CleanOpening : List ℕ → Opening → Type 0 where
+  four : {f g h k : List ℕ} {o : Opening}
       → CleanNumeral f (o .method) → CleanNumeral g (o .first) → CleanNumeral h (o .second) → CleanNumeral k (o .tolerance)
-      → CleanAnswers t answers
-      → CleanText (f ++ comma ∷ g ++ comma ∷ h ++ comma ∷ k ++ cr ∷ lf ∷ t) o answers
+      → o .share ≡ pos 0
+      → CleanOpening (f ++ comma ∷ g ++ comma ∷ h ++ comma ∷ k) o
+  five : {f g h k l : List ℕ} {o : Opening}
+      → CleanNumeral f (o .method) → CleanNumeral g (o .first) → CleanNumeral h (o .second) → CleanNumeral k (o .tolerance)
+      → CleanNumeral l (o .share) → (o .share ≡ pos 0 → ⊥)
+      → CleanOpening (f ++ comma ∷ g ++ comma ∷ h ++ comma ∷ k ++ comma ∷ l) o
+
+pub data CleanText : List ℕ → Opening → List Answer → Type 0 where
+  sheet : {r t : List ℕ} {o : Opening} {answers : List Answer} → CleanOpening r o → CleanAnswers t answers
+      → CleanText (r ++ cr ∷ lf ∷ t) o answers
 
 -- a text is clean if it is so for some opening and answers
 abbrev pub Clean : List ℕ → Type 0

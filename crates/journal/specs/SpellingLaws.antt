@@ -23,10 +23,10 @@ use Rattle.forms.specs.NumberLaws.{NumberText}
 use Rattle.forms.specs.TextLaws.{LineEnd, after, recordsWith}
 use Rattle.forms.specs.FieldLaws.{FieldText, joined, number-field, enclosed-field, field-text}
 use Rattle.forms.specs.Entries.{fieldOf, filled, entriesOf}
-use Rattle.forms.specs.ReadingLaws.{Spells, openingNumbers, SpellsAnswers, entries-read}
+use Rattle.forms.specs.ReadingLaws.{Spells, SpellsOpening, SpellsAnswers, entries-read}
 use Rattle.forms.specs.TakenLaws.{Laid, entries-laid}
 use Rattle.journal.specs.Answers.{points, values}
-use Rattle.journal.specs.Spelling.{digit, Digits, Numeral, Field, AnswersText, SheetText}
+use Rattle.journal.specs.Spelling.{digit, Digits, Numeral, Field, AnswersText, OpeningText, SheetText}
 use Rattle.journal.specs.Reading.{ReadAs, Reading}
 
 -- ---- a numeral is read as its number
@@ -130,6 +130,21 @@ answers-fielded (AnswersText.next {f} {g} p v r) =
       count = ap suc (k .count);
     }
 
+-- the first record is a row of fields
+record Headed (r : List ℕ) (o : Opening) : Type 0 where
+  fields : List (List ℕ)
+  spelled : SpellsOpening fields o
+  text : joined fields ≡ r
+
+opening-fielded : {r : List ℕ} {o : Opening} → OpeningText r o → Headed r o
+opening-fielded (OpeningText.four {f} {g} {h} {k} m x y w e) =
+    let row = Spells.more (field-read m) (Spells.more (field-read x) (Spells.more (field-read y) (Spells.more (field-read w) Spells.none))) in
+    record { fields = f ∷ g ∷ h ∷ k ∷ []; spelled = SpellsOpening.four row e; text = simp append-assoc }
+opening-fielded (OpeningText.five {f} {g} {h} {k} {l} m x y w p) =
+    let tail = Spells.more (field-read w) (Spells.more (field-read p) Spells.none) in
+    let row = Spells.more (field-read m) (Spells.more (field-read x) (Spells.more (field-read y) tail)) in
+    record { fields = f ∷ g ∷ h ∷ k ∷ l ∷ []; spelled = SpellsOpening.five row; text = simp append-assoc }
+
 -- the whole text is the first row and what stands after it
 whole-text : (end : List ℕ) (head : List (List ℕ)) (rows : List (List (List ℕ)))
     → flatten (recordsWith end (map joined (head ∷ rows))) ≡ joined head ++ behind end rows
@@ -138,11 +153,12 @@ whole-text end head rows = append-assoc (joined head) (after end (map joined row
 
 -- a sheet in any spelling is read as its numbers
 pub spelled-read : {t : List ℕ} {o : Opening} {answers : List Answer} → SheetText t o answers → length answers ≤ slots → ReadAs t o answers
-unfolding flatten
-spelled-read (SheetText.sheet {o = o} m x y w r) l =
-    let a = answers-fielded r in
-    let row = Spells.more (field-read m) (Spells.more (field-read x) (Spells.more (field-read y) (Spells.more (field-read w) Spells.none))) in
-    simp append-assoc (simp (append-assoc, a .text) at (entries-read o (a .line-end) row (a .spelled) (omega arith)))
+spelled-read (SheetText.sheet {r = r} {o = o} {answers = answers} head t) l =
+    let a = answers-fielded t in
+    let h = opening-fielded head in
+    let e = entries-read o (a .line-end) (h .spelled) (a .spelled) (omega (arith, a .count)) in
+    subst₂ (λ (u v : List ℕ). ReadAs (u ++ v) o answers) (h .text) (a .text)
+    (subst (λ (u : List ℕ). ReadAs u o answers) (whole-text (a .end) (h .fields) (a .rows)) e)
 
 -- ---- and what is read is spelled
 
@@ -173,10 +189,13 @@ pub record Spelled (text : List ℕ) : Type 0 where
   pub spells : SheetText text opening answers
   pub few : length answers ≤ slots
 
-head-spelled : {head : List (List ℕ)} {t : List ℕ} (o : Opening) {answers : List Answer}
-    → Spells head (openingNumbers o) → AnswersText t answers → SheetText (joined head ++ t) o answers
-head-spelled o (Spells.more m (Spells.more x (Spells.more y (Spells.more w Spells.none)))) a =
-    simp append-assoc (simp append-assoc at (SheetText.sheet {o = o} (read-field m) (read-field x) (read-field y) (read-field w) a))
+row-opening : {head : List (List ℕ)} {o : Opening} → SpellsOpening head o → OpeningText (joined head) o
+row-opening {o = o} (SpellsOpening.four (Spells.more m (Spells.more x (Spells.more y (Spells.more w Spells.none)))) e) =
+    let text = OpeningText.four (read-field m) (read-field x) (read-field y) (read-field w) e in
+    subst (λ (r : List ℕ). OpeningText r o) (simp append-assoc) text
+row-opening {o = o} (SpellsOpening.five (Spells.more m (Spells.more x (Spells.more y (Spells.more w (Spells.more p Spells.none)))))) =
+    let text = OpeningText.five (read-field m) (read-field x) (read-field y) (read-field w) (read-field p) in
+    subst (λ (r : List ℕ). OpeningText r o) (simp append-assoc) text
 
 laid-spelled : {text : List ℕ} → Laid text → Spelled text
 laid-spelled l =
@@ -185,7 +204,7 @@ laid-spelled l =
     record {
       opening = l .opening;
       answers = k .answers;
-      spells = subst (λ (t : List ℕ). SheetText t (l .opening) (k .answers)) whole (head-spelled (l .opening) (l .spelled-head) (k .text));
+      spells = subst (λ (t : List ℕ). SheetText t (l .opening) (k .answers)) whole (SheetText.sheet (row-opening (l .spelled-head)) (k .text));
       few = omega (arith, l .few, k .count);
     }
 
@@ -242,6 +261,7 @@ pub record SpellableOpening (o : Opening) : Type 0 where
   pub first : Spellable (o .first)
   pub second : Spellable (o .second)
   pub tolerance : Spellable (o .tolerance)
+  pub share : Spellable (o .share)
 
 abbrev pub SpellableAnswers : List Answer → Type 0
 SpellableAnswers [] = Unit {0}
@@ -274,4 +294,6 @@ has-text o answers h k =
     let x = numeral-of (o .first) (h .first) in
     let y = numeral-of (o .second) (h .second) in
     let w = numeral-of (o .tolerance) (h .tolerance) in
-    (_, SheetText.sheet (Field.bare (m .1)) (Field.bare (x .1)) (Field.bare (y .1)) (Field.bare (w .1)) (answers-text answers k .1))
+    let p = numeral-of (o .share) (h .share) in
+    let head = OpeningText.five (Field.bare (m .1)) (Field.bare (x .1)) (Field.bare (y .1)) (Field.bare (w .1)) (Field.bare (p .1)) in
+    (_, SheetText.sheet head (answers-text answers k .1))

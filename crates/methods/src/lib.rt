@@ -19,11 +19,12 @@ pub fn method_of(o: Opening) -> Method
     }
 }
 
-// The tolerance at the better end b.
-pub fn tolerance_at(o: Opening, b: u32) -> u32
+// The tolerance at the better end b. In 64 bits it is exact for every opening and every b.
+pub fn tolerance_at(o: Opening, b: u32) -> u64
     ensures { λ r. ⌜ r ≡ toleranceAt o b ⌝ }
 {
-    comparisons::magnitude(o.tolerance)
+    let share = comparisons::magnitude(o.share) as u64;
+    comparisons::magnitude(o.tolerance) as u64 + share * b as u64 / 1000
 }
 
 // What M and R use at each streak.

@@ -41,6 +41,9 @@ pub fn opening_refusal(o: Opening) -> u32
     if beyond(1, rules::LARGEST_TOLERANCE, o.tolerance) {
         return rules::TOLERANCE_OUT_OF_RANGE;
     }
+    if beyond(0, rules::LARGEST_SHARE, o.share) {
+        return rules::SHARE_OUT_OF_RANGE;
+    }
     0
 }
 

@@ -1,5 +1,5 @@
 -- The table "Refused, by place of check" of document 01: the numbers 1 to 9, and the rows of the opening and of each answer, in the order
--- written. A refusal is its number, and 0 stands for none.
+-- written; with number 17 of request 2026-07 among them. A refusal is its number, and 0 stands for none.
 -- Assumes nothing.
 use Prim.Native.Nat.{ℕ}
 use mathlib.Core.Path.{_≡_}
@@ -10,7 +10,7 @@ use lib.IntN.{ℤ, pos, natAbs}
 use lib.Signed.{ltZ}
 use Rattle.integers.specs.Signs.{eqZ}
 use Rattle.rules.specs.declared.Opening.{Opening}
-use Rattle.rules.specs.Rules.{highest, largestTolerance, largestValue}
+use Rattle.rules.specs.Rules.{highest, largestTolerance, largestShare, largestValue}
 
 -- ---- the numbers, in document 01's words
 
@@ -29,6 +29,10 @@ endsEqual = 3
 -- τ out of range
 abbrev pub toleranceOutOfRange : ℕ
 toleranceOutOfRange = 4
+
+-- p out of range, checked after 4
+abbrev pub shareOutOfRange : ℕ
+shareOutOfRange = 17
 
 -- the search had stopped
 abbrev pub hadStopped : ℕ
@@ -87,6 +91,7 @@ openingRefusal o =
     ∷ check (outside 0 highest (o .first) || outside 0 highest (o .second)) endOutOfRange
     ∷ check (eqZ (o .first) (o .second)) endsEqual
     ∷ check (outside 1 largestTolerance (o .tolerance)) toleranceOutOfRange
+    ∷ check (outside 0 largestShare (o .share)) shareOutOfRange
     ∷ [])
 
 -- Each answer: whether the search had stopped, whether the point is another than the one called for (false where none is given),

@@ -10,7 +10,7 @@ use lib.IntN.{ℤ, pos, negsuc, natAbs}
 use Rattle.integers.specs.Signs.{eqZ}
 use Rattle.integers.specs.SignsLaws.{eq-eqZ, never, negated, product-above}
 use Rattle.rules.specs.declared.Opening.{Opening}
-use Rattle.rules.specs.Rules.{highest, largestTolerance, opposed}
+use Rattle.rules.specs.Rules.{highest, largestTolerance, largestShare, opposed}
 use Rattle.rules.specs.Refusals.{outside, sameSide, openingRefusal, answerRefusal, Accepted}
 
 -- ---- no refusal applies: each cause is absent
@@ -48,6 +48,7 @@ pub record Opened (o : Opening) : Type 0 where
   pub second : Ranged 0 highest (o .second)
   pub apart : natAbs (o .first) ≡ natAbs (o .second) → ⊥
   pub tolerance : Ranged 1 largestTolerance (o .tolerance)
+  pub share : Ranged 0 largestShare (o .share)
 
 pub opened : (o : Opening) → Accepted o → Opened o
 unfolding openingRefusal
@@ -57,6 +58,7 @@ opened o a =
     let e = or-false (outside 0 highest (o .first)) (outside 0 highest (o .second)) (q .0) in
     let r = passed (eqZ (o .first) (o .second)) _ _ (q .1) in
     let s = passed (outside 1 largestTolerance (o .tolerance)) _ _ (r .1) in
+    let t = passed (outside 0 largestShare (o .share)) _ _ (s .1) in
     let x = ranged 0 highest (o .first) (e .left) in
     let y = ranged 0 highest (o .second) (e .right) in
     record {
@@ -65,6 +67,7 @@ opened o a =
       second = y;
       apart = λ f. never (sym (eq-eqZ (o .first) (o .second) (x .whole ∙ ap pos f ∙ sym (y .whole))) ∙ r .0);
       tolerance = ranged 1 largestTolerance (o .tolerance) (s .0);
+      share = ranged 0 largestShare (o .share) (t .0);
     }
 
 -- ---- an answer

@@ -26,6 +26,10 @@ highest = 60000
 abbrev pub largestTolerance : ℕ
 largestTolerance = 5000
 
+-- of the share, from 0
+abbrev pub largestShare : ℕ
+largestShare = 100
+
 -- of a value, above 0 and below
 abbrev pub largestValue : ℕ
 largestValue = 10000
@@ -54,9 +58,9 @@ firstOf o = natAbs (o .first)
 abbrev pub secondOf : Opening → ℕ
 secondOf o = natAbs (o .second)
 
--- the tolerance at the better end: τ, wherever that end lies
+-- the tolerance at b: τ plus the whole part of p × b / 1,000
 unfoldable pub toleranceAt : Opening → ℕ → ℕ
-toleranceAt o b = natAbs (o .tolerance)
+toleranceAt o b = natAbs (o .tolerance) + natAbs (o .share) * b / 1000
 
 -- ---- Rule 1: the first two points; b is the better end, c the other, L = |b − c|
 
@@ -89,12 +93,12 @@ pub record Inside (k k' : Bracket) : Type 0 where
   pub lower : lowerOf k ≤ lowerOf k'
   pub upper : upperOf k' ≤ upperOf k
 
--- ---- Rule 2: the search stops when L ≤ 2τ
+-- ---- Rule 2: the search stops when L is at most twice the tolerance at b
 
 unfoldable pub stoppedOf : Opening → Bracket → Bool
 stoppedOf o k = leb (widthOf k) (2 * toleranceAt o (k .better .point))
 
--- ---- Rule 3: the displacement D for a fraction u
+-- ---- Rule 3: the displacement D for a fraction u, with the tolerance at b for τ
 
 -- of u = num / den with den above 0. Below 0: L/2 rounded down. From 0 to τ: τ. From there to L/2: u rounded down, towards b.
 -- In every other case: L/2 rounded down.

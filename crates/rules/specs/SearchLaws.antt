@@ -7,7 +7,7 @@ use mathlib.Core.Path.{_≡_, refl, sym, ap, subst, _∙_}
 use mathlib.Core.Bool.{Bool, true, false, cond, _||_}
 use mathlib.Core.List.{List, [], _∷_, _++_, foldl, foldl-append}
 use mathlib.Core.Logic.{_⊎_, inl, inr}
-use native.Mathlib.Nat.{le-refl, le-trans, add-zero, zero-add}
+use native.Mathlib.Nat.{le-trans, add-zero, zero-add, mul-le-mul}
 use native.Mathlib.Omega.{arith}
 use borrow.Author.Tests.{eqb-true, ltb-false, eq-eqb}
 use lib.Dec.{eqb}
@@ -21,7 +21,7 @@ use Rattle.rules.specs.declared.Sample.{Sample}
 use Rattle.rules.specs.declared.Bracket.{Bracket}
 use Rattle.rules.specs.declared.Progress.{Progress}
 use Rattle.rules.specs.declared.Report.{Report}
-use Rattle.rules.specs.Rules.{highest, largestTolerance, largestValue, slots, methodOf, firstOf, secondOf, toleranceAt, closer}
+use Rattle.rules.specs.Rules.{highest, largestValue, slots, methodOf, firstOf, secondOf, toleranceAt, closer}
 use Rattle.rules.specs.Rules.{pairOf, startOf, lowerOf, upperOf, widthOf, stoppedOf, partnerOf, thirdOf, streakOf, renewedOf}
 use Rattle.rules.specs.Rules.{advanceOf, allowed, reachOf, offsetOf, nextOf}
 use Rattle.rules.specs.RulesLaws.{Ahead, next-ahead, offset-in, going-wide, Straddles, partner-is, Advance, advance-by, advance-is, advance-counts}
@@ -56,11 +56,17 @@ pub record Sound (o : Opening) (k : Bracket) : Type 0 where
 -- the one lemma on the tolerance at b that the bound rests on
 pub tolerance-least : (o : Opening) (b : ℕ) → natAbs (o .tolerance) ≤ toleranceAt o b
 unfolding toleranceAt
-tolerance-least o b = le-refl _
+tolerance-least o b = omega arith
 
-pub tolerance-most : (o : Opening) (b : ℕ) → Opened o → toleranceAt o b ≤ largestTolerance
+-- and what it is at most, where τ, p and b are
+pub tolerance-within : (o : Opening) (b : ℕ) {τ p q : ℕ} → natAbs (o .tolerance) ≤ τ → natAbs (o .share) ≤ p → b ≤ q
+    → toleranceAt o b ≤ τ + p * q / 1000
 unfolding toleranceAt
-tolerance-most o b op = op .tolerance .most
+tolerance-within o b h g k = omega (arith, mul-le-mul g k)
+
+-- 5,000 and a tenth of 60,000
+pub tolerance-most : (o : Opening) (b : ℕ) → Opened o → b ≤ highest → toleranceAt o b ≤ 11000
+tolerance-most o b op h = tolerance-within o b (op .tolerance .most) (op .share .most) h
 
 pub going-wider : (o : Opening) (k : Bracket) → stoppedOf o k ≡ false → 2 * natAbs (o .tolerance) < widthOf k
 going-wider o k g = omega (arith, going-wide o k g, tolerance-least o (k .better .point))

@@ -1,5 +1,6 @@
 -- Trials: the report on an opening and its values is the one stated, each list by one statement. First the starred trials of document 01,
--- then the other rows of its table and refusals in its order, then the whole range. `Branches` has a trial for each branch of rules 1 to 8.
+-- then the other rows of its table and refusals in its order, then the whole range, then a tolerance that grows with the setting. `Branches`
+-- has a trial for each branch of rules 1 to 8.
 -- Assumes nothing.
 use Prim.Native.Nat.{ℕ}
 use mathlib.Core.Path.{_≡_, refl}
@@ -18,10 +19,18 @@ pub record Trial : Type 0 where
   pub values : List ℤ
   pub report : Report
 
--- method, x0, x1, τ, the values and the report
-abbrev pub trial : ℤ → ℤ → ℤ → ℤ → List ℤ → Report → Trial
-trial method first second tolerance vs r =
-    record { opening = record { method = method; first = first; second = second; tolerance = tolerance }; values = vs; report = r }
+-- method, x0, x1, τ and p, the values and the report
+abbrev pub sharing : (method first second tolerance share : ℤ) → List ℤ → Report → Trial
+sharing method first second tolerance share vs r =
+    record {
+      opening = record { method = method; first = first; second = second; tolerance = tolerance; share = share };
+      values = vs;
+      report = r;
+    }
+
+-- with p = 0
+abbrev pub trial : (method first second tolerance : ℤ) → List ℤ → Report → Trial
+trial method first second tolerance vs r = sharing method first second tolerance (pos 0) vs r
 
 abbrev pub minus : ℕ → ℤ
 minus n = negℤ (pos n)
@@ -127,3 +136,36 @@ wide =
 pub wide-hold : AllHold wide
 unfolding reported
 wide-hold = refl
+
+-- ---- a tolerance that grows with the setting, since request 2026-07
+
+abbrev pub shares : List Trial
+shares =
+    -- at b = 21,000 the tolerance is 25 + 42 = 67. L = 134: stopped, with b the lower end, and the upper. At c and in the middle of
+    -- the second it is 66
+    sharing (pos 1) (pos 21000) (pos 21134) (pos 25) (pos 2) (pos 1 ∷ minus 2 ∷ []) (Stop 21000 21134 21000 2)
+    ∷ sharing (pos 1) (pos 20866) (pos 21000) (pos 25) (pos 2) (minus 2 ∷ pos 1 ∷ []) (Stop 20866 21000 21000 2)
+    -- L = 135: not yet. u = 45, so D is the tolerance, 67
+    ∷ sharing (pos 1) (pos 21000) (pos 21135) (pos 25) (pos 2) (pos 1 ∷ minus 2 ∷ []) (Next 21067 2)
+    ∷ sharing (pos 1) (pos 20865) (pos 21000) (pos 25) (pos 2) (minus 2 ∷ pos 1 ∷ []) (Next 20933 2)
+    -- the whole part of b/1,000: 0 at 999, 1 at 1,000
+    ∷ sharing (pos 1) (pos 999) (pos 1002) (pos 1) (pos 1) (pos 1 ∷ minus 2 ∷ []) (Next 1000 2)
+    ∷ sharing (pos 1) (pos 1000) (pos 1004) (pos 1) (pos 1) (pos 1 ∷ minus 2 ∷ []) (Stop 1000 1004 1000 2)
+    ∷ sharing (pos 1) (pos 1000) (pos 1005) (pos 1) (pos 1) (pos 1 ∷ minus 2 ∷ []) (Next 1002 2)
+    -- nothing is added at b = 0; the largest, at 60,000, is 5,000 + 6,000
+    ∷ sharing (pos 1) (pos 0) (pos 3) (pos 1) (pos 100) (pos 1 ∷ minus 2 ∷ []) (Next 1 2)
+    ∷ sharing (pos 1) (pos 60000) (pos 38000) (pos 5000) (pos 100) (pos 1 ∷ minus 2 ∷ []) (Stop 38000 60000 60000 2)
+    ∷ sharing (pos 1) (pos 60000) (pos 37999) (pos 5000) (pos 100) (pos 1 ∷ minus 2 ∷ []) (Next 49000 2)
+    -- b on target: D is 10 + 20 from 2,000, and 10 + 40 from 4,000; by R too
+    ∷ sharing (pos 1) (pos 2000) (pos 4000) (pos 10) (pos 10) (pos 0 ∷ pos 5 ∷ []) (Next 2030 2)
+    ∷ sharing (pos 2) (pos 4000) (pos 2000) (pos 10) (pos 10) (pos 0 ∷ pos 5 ∷ []) (Next 3950 2)
+    -- 17 comes after 4, and the limits of p are taken
+    ∷ sharing (pos 1) (pos 0) (pos 100) (pos 0) (pos 101) [] (Refused 4 0)
+    ∷ sharing (pos 1) (pos 0) (pos 100) (pos 1) (pos 101) [] (Refused 17 0)
+    ∷ sharing (pos 1) (pos 0) (pos 100) (pos 1) (minus 1) [] (Refused 17 0)
+    ∷ sharing (pos 1) (pos 0) (pos 100) (pos 1) (pos 100) [] (Next 0 0)
+    ∷ []
+
+pub shares-hold : AllHold shares
+unfolding reported
+shares-hold = refl

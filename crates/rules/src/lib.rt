@@ -1,15 +1,17 @@
 // The types of the search, of which document 01 speaks. There is no function here: see specs/.
 
-// The limits: of a point, of the tolerance, of a value above and below 0, and of the answers that a held search keeps.
+// The limits: of a point, of the tolerance, of the share, of a value above and below 0, and of the answers that a held search keeps.
 pub const HIGHEST: u32 = 60000;
 
 pub const LARGEST_TOLERANCE: u32 = 5000;
+
+pub const LARGEST_SHARE: u32 = 100;
 
 pub const LARGEST_VALUE: u32 = 10000;
 
 pub const SLOTS: usize = 77;
 
-// The refusals by number. An opening: method not 0, 1 or 2; an end out of range; ends equal; τ out of range.
+// The refusals by number. An opening: method not 0, 1 or 2; an end out of range; ends equal; τ out of range; p out of range.
 pub const UNKNOWN_METHOD: u32 = 1;
 
 pub const END_OUT_OF_RANGE: u32 = 2;
@@ -17,6 +19,8 @@ pub const END_OUT_OF_RANGE: u32 = 2;
 pub const ENDS_EQUAL: u32 = 3;
 
 pub const TOLERANCE_OUT_OF_RANGE: u32 = 4;
+
+pub const SHARE_OUT_OF_RANGE: u32 = 17;
 
 // An answer: the search had stopped; its point, where one is given, is not the one called for; value out of range; second answer, and
 // the first two values are both positive or both negative.
@@ -48,13 +52,15 @@ pub const NOT_ITS_TURN: u32 = 15;
 
 pub const STILL_SEARCHING: u32 = 16;
 
-// An opening: the method, the first end x0, the second end x1 and the tolerance. A sheet may hold any of them out of range.
+// An opening: the method, the first end x0, the second end x1, the tolerance τ, and the share p of a setting that is added to it, in parts
+// per thousand. A sheet may hold any of them out of range.
 #[repr(C)]
 pub struct Opening {
     pub method: i32,
     pub first: i32,
     pub second: i32,
     pub tolerance: i32,
+    pub share: i32,
 }
 
 // An answer: the point of a trial, and the value that came out. Either may be out of range.

@@ -17,7 +17,7 @@ pub enum PairScan {
     Malformed,
 }
 
-// method,x0,x1,tau and the length of the record
+// method,x0,x1,tau or method,x0,x1,tau,p, and the length of the record
 pub enum OpeningScan {
     Opened { opening: Opening, length: usize },
     Malformed,

@@ -2,9 +2,11 @@
 -- Assumes nothing.
 use Prim.Native.Nat.{ℕ, _+_, _≤_}
 use mathlib.Core.Path.{_≡_}
+use mathlib.Core.Bool.{cond}
 use mathlib.Core.List.{List, [], _∷_, _++_}
 use lib.IntN.{ℤ, pos}
 use lib.ListN.{length, take, drop}
+use Rattle.integers.specs.Signs.{eqZ}
 use Rattle.rules.specs.declared.Opening.{Opening}
 use Rattle.forms.specs.Bytes.{cr, lf, comma}
 use Rattle.clean_sheets.specs.Clean.{numberText}
@@ -15,14 +17,22 @@ use Rattle.clean_sheets.specs.Clean.{numberText}
 abbrev pub fieldText : ℤ → ℕ → List ℕ
 fieldText z end = numberText z ++ end ∷ []
 
--- method,x0,x1,τ and CR LF
+-- the last number of a record, and CR LF
+abbrev pub lastText : ℤ → List ℕ
+lastText z = fieldText z cr ++ lf ∷ []
+
+-- τ, and p where it is not 0, and CR LF
+unfoldable pub tailText : ℤ → ℤ → List ℕ
+tailText t p = cond (eqZ p (pos 0)) (lastText t) (fieldText t comma ++ lastText p)
+
+-- method,x0,x1,τ or method,x0,x1,τ,p and CR LF
 unfoldable pub openingText : Opening → List ℕ
 openingText o =
-    fieldText (o .method) comma ++ fieldText (o .first) comma ++ fieldText (o .second) comma ++ fieldText (o .tolerance) cr ++ lf ∷ []
+    fieldText (o .method) comma ++ fieldText (o .first) comma ++ fieldText (o .second) comma ++ tailText (o .tolerance) (o .share)
 
 -- point,value and CR LF
 unfoldable pub answerText : ℕ → ℤ → List ℕ
-answerText x v = fieldText (pos x) comma ++ fieldText v cr ++ lf ∷ []
+answerText x v = fieldText (pos x) comma ++ lastText v
 
 -- ---- a text put into a buffer
 

@@ -2,7 +2,7 @@
 -- Assumes nothing.
 use Prim.Native.Nat.{ℕ, _+_, _≤_, _<_}
 use mathlib.Core.Path.{_≡_, refl, sym, ap, ap₂, _∙_}
-use mathlib.Core.Bool.{true, false}
+use mathlib.Core.Bool.{Bool, true, false, cond}
 use mathlib.Core.List.{List, [], _∷_, _++_, append-assoc}
 use native.Mathlib.Nat.{add-zero, zero-add}
 use native.Mathlib.Numerals.{add-one}
@@ -12,13 +12,14 @@ use lib.IntN.{ℤ, pos, negsuc, natAbs}
 use lib.ListN.{length, take, drop, set, length-append, length-drop}
 use lib.Seq.{length-take-le, take-at, drop-at, drop-drop, take-append-seam, set-split, append-snoc, paste-zero}
 use lib.Signed.{ltZ}
+use Rattle.integers.specs.Signs.{eqZ}
 use Rattle.integers.specs.SignsLaws.{never}
 use Rattle.rules.specs.declared.Opening.{Opening}
 use Rattle.rules.specs.declared.Answer.{Answer}
 use Rattle.forms.specs.Bytes.{cr, lf, comma, minus}
 use Rattle.lines.specs.Decimal.{decimalOf}
-use Rattle.clean_sheets.specs.Clean.{numberText, answersText, sheetText}
-use Rattle.sheet_text.specs.Pieces.{fieldText, openingText, answerText, spliced, Puts}
+use Rattle.clean_sheets.specs.Clean.{numberText, answersText, shareText, openingFields, sheetText}
+use Rattle.sheet_text.specs.Pieces.{fieldText, lastText, tailText, openingText, answerText, spliced, Puts}
 
 -- ---- a number, by its sign
 
@@ -32,11 +33,49 @@ unfolding numberText
 number-above (pos n) e = refl
 number-above (negsuc n) e = never e
 
+-- ---- the end of an opening's record, by p
+
+module _ (t p : ℤ) where
+  pub tail-alone : eqZ p (pos 0) ≡ true → tailText t p ≡ lastText t
+  unfolding tailText
+  tail-alone e = simp e
+
+  pub tail-shared : eqZ p (pos 0) ≡ false → tailText t p ≡ fieldText t comma ++ lastText p
+  unfolding tailText
+  tail-shared e = simp e
+
 -- ---- the sheet is its records, one after the other
 
+three-fields : (m x y rest : List ℕ)
+    → m ++ comma ∷ x ++ comma ∷ y ++ comma ∷ rest ≡ (m ++ comma ∷ []) ++ (x ++ comma ∷ []) ++ (y ++ comma ∷ []) ++ rest
+three-fields m x y rest = simp append-assoc
+
+-- what stands before the answers, after the first three fields
+tail-text : (t p : ℤ) (rest : List ℕ) → numberText t ++ (shareText p ++ cr ∷ lf ∷ rest) ≡ tailText t p ++ rest
+unfolding tailText
+tail-text t p rest = go (eqZ p (pos 0))
+  where
+    go : (b : Bool)
+        → numberText t ++ (cond b [] (comma ∷ numberText p) ++ cr ∷ lf ∷ rest) ≡ cond b (lastText t) (fieldText t comma ++ lastText p) ++ rest
+    go true = simp append-assoc
+    go false = simp append-assoc
+
 pub sheet-records : (o : Opening) (answers : List Answer) → sheetText o answers ≡ openingText o ++ answersText answers
-unfolding sheetText openingText
-sheet-records o answers = simp append-assoc
+unfolding sheetText openingFields openingText
+sheet-records o answers =
+    let m = numberText (o .method) in
+    let x = numberText (o .first) in
+    let y = numberText (o .second) in
+    let t = numberText (o .tolerance) in
+    let p = shareText (o .share) in
+    let rest = answersText answers in
+    let ends = m ++ comma ∷ x ++ comma ∷ y in
+    let three = fieldText (o .method) comma ++ fieldText (o .first) comma ++ fieldText (o .second) comma in
+    append-assoc (ends ++ comma ∷ t) p (cr ∷ lf ∷ rest)
+    ∙ append-assoc ends (comma ∷ t) (p ++ cr ∷ lf ∷ rest)
+    ∙ three-fields m x y (t ++ (p ++ cr ∷ lf ∷ rest))
+    ∙ ap (λ (l : List ℕ). three ++ l) (tail-text (o .tolerance) (o .share) rest)
+    ∙ sym (append-assoc three (tailText (o .tolerance) (o .share)) rest)
 
 pub answer-record : (x : ℕ) (v : ℤ) (answers : List Answer)
     → answersText (record { point = pos x; value = v } ∷ answers) ≡ answerText x v ++ answersText answers
@@ -47,25 +86,23 @@ answer-record x v answers = simp append-assoc
 pub opening-length : (o : Opening)
     → length (openingText o)
     ≡ length (fieldText (o .method) comma) + length (fieldText (o .first) comma) + length (fieldText (o .second) comma)
-    + length (fieldText (o .tolerance) cr) + 1
+    + length (tailText (o .tolerance) (o .share))
 unfolding openingText
 opening-length o =
     let a = fieldText (o .method) comma ++ fieldText (o .first) comma in
     let b = a ++ fieldText (o .second) comma in
-    let c = b ++ fieldText (o .tolerance) cr in
     omega (
       arith,
-      length-append c (lf ∷ []),
-      length-append b (fieldText (o .tolerance) cr),
+      length-append b (tailText (o .tolerance) (o .share)),
       length-append a (fieldText (o .second) comma),
       length-append (fieldText (o .method) comma) (fieldText (o .first) comma),
     )
 
-pub answer-length : (x : ℕ) (v : ℤ) → length (answerText x v) ≡ length (decimalOf x) + 1 + length (fieldText v cr) + 1
+pub answer-length : (x : ℕ) (v : ℤ) → length (answerText x v) ≡ length (decimalOf x) + 1 + length (lastText v)
 unfolding answerText numberText
 answer-length x v =
     let a = decimalOf x ++ comma ∷ [] in
-    omega (arith, length-append (a ++ fieldText v cr) (lf ∷ []), length-append a (fieldText v cr), length-append (decimalOf x) (comma ∷ []))
+    omega (arith, length-append a (lastText v), length-append (decimalOf x) (comma ∷ []))
 
 -- ---- a text in the middle of a buffer
 

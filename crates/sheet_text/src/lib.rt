@@ -4,7 +4,7 @@ ghost use Prim.Native.Nat.{_+_, _≤_};
 ghost use lib.ListN.{length};
 ghost use Rattle.lines.specs.Decimal.{decimalOf};
 ghost use Rattle.clean_sheets.specs.Clean.{numberText};
-ghost use Rattle.sheet_text.specs.Pieces.{fieldText, openingText, answerText, Puts};
+ghost use Rattle.sheet_text.specs.Pieces.{fieldText, lastText, tailText, openingText, answerText, Puts};
 use rules::Opening;
 
 // The digits of a number: those of its tenth part, and the last.
@@ -44,7 +44,29 @@ fn put_field(out: &mut [u8], at: usize, z: i32, end: u8) -> usize
     last + 1
 }
 
-// The record of an opening: method,x0,x1,τ and CR LF.
+// The last number of a record, and CR LF.
+fn put_last(out: &mut [u8], at: usize, z: i32) -> usize
+    requires { ⌜ at + length (lastText z) ≤ length (now out) ⌝ }
+    ensures { λ r. ⌜ Puts (now (out .entry)) at (lastText z) (now (out .exit)) r ⌝ }
+{
+    let last = put_field(out, at, z, b'\r');
+    out[last] = b'\n';
+    last + 1
+}
+
+// The end of an opening's record: τ, and p where it is not 0, and CR LF.
+fn put_tail(out: &mut [u8], at: usize, tolerance: i32, share: i32) -> usize
+    requires { ⌜ at + length (tailText tolerance share) ≤ length (now out) ⌝ }
+    ensures { λ r. ⌜ Puts (now (out .entry)) at (tailText tolerance share) (now (out .exit)) r ⌝ }
+{
+    if comparisons::equal(share, 0) {
+        return put_last(out, at, tolerance);
+    }
+    let last = put_field(out, at, tolerance, b',');
+    put_last(out, last, share)
+}
+
+// The record of an opening: method,x0,x1,τ or method,x0,x1,τ,p and CR LF.
 pub fn put_opening(out: &mut [u8], at: usize, o: Opening) -> usize
     requires { ⌜ at + length (openingText o) ≤ length (now out) ⌝ }
     ensures { λ r. ⌜ Puts (now (out .entry)) at (openingText o) (now (out .exit)) r ⌝ }
@@ -52,9 +74,7 @@ pub fn put_opening(out: &mut [u8], at: usize, o: Opening) -> usize
     let a = put_field(out, at, o.method, b',');
     let b = put_field(out, a, o.first, b',');
     let c = put_field(out, b, o.second, b',');
-    let d = put_field(out, c, o.tolerance, b'\r');
-    out[d] = b'\n';
-    d + 1
+    put_tail(out, c, o.tolerance, o.share)
 }
 
 // The record of an answer: point,value and CR LF.
@@ -64,7 +84,5 @@ pub fn put_answer(out: &mut [u8], at: usize, point: u32, value: i32) -> usize
 {
     let a = put_digits(out, at, point);
     out[a] = b',';
-    let b = put_field(out, a + 1, value, b'\r');
-    out[b] = b'\n';
-    b + 1
+    put_last(out, a + 1, value)
 }

@@ -8,11 +8,11 @@ use rules::Bracket;
 use rules::Opening;
 use rules::Step;
 
-// Rule 2: the search stops when L ≤ 2τ.
+// Rule 2: the search stops when L is at most twice the tolerance at b.
 pub fn stopped(o: Opening, k: Bracket) -> bool
     ensures { λ r. ⌜ r ≡ stoppedOf o k ⌝ }
 {
-    brackets::width(k) as u64 <= 2 * methods::tolerance_at(o, k.better.point) as u64
+    brackets::width(k) as u64 <= 2 * methods::tolerance_at(o, k.better.point)
 }
 
 // The displacement that a step takes.
@@ -49,7 +49,7 @@ fn offset(o: Opening, k: Bracket) -> u32
     requires { ⌜ Ready o k ⌝ }
     ensures { λ r. ⌜ r ≡ offsetOf o k ⌝ }
 {
-    let tolerance = methods::tolerance_at(o, k.better.point);
+    let tolerance = methods::tolerance_at(o, k.better.point) as u32;
     let step = methods::step_at(methods::method_of(o), k.taken == 2, k.streak);
     reach(tolerance, k, step)
 }

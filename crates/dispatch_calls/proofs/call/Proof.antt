@@ -18,15 +18,15 @@ returns : tie.Need-returns
 returns c =
     let s = c .before .before in
     let x = s .args in
-    (rw (read (s .fits .a), read (s .fits .b), read (s .fits .c), read (s .fits .e)) at (c .open .ensures))
-    ∙ sym (ap (callOf (x .d)) (call-opening (x .kind) (x .dryer) (x .a) (x .b) (x .c) (x .e) (c .before .if1 .taken)))
+    (rw (read (s .fits .a), read (s .fits .b), read (s .fits .c), read (s .fits .e), read (s .fits .f)) at (c .open .ensures))
+    ∙ sym (ap (callOf (x .d)) (call-opening (x .kind) (x .dryer) (x .a) (x .b) (x .c) (x .e) (x .f) (c .before .if1 .taken)))
 
 returns-2 : tie.Need-returns-2
 returns-2 c =
     let s = c .before .before in
     let x = s .args in
     (rw (read (s .fits .a), read (s .fits .b)) at (c .enter .ensures))
-    ∙ sym (ap (callOf (x .d)) (call-answer (x .kind) (x .dryer) (x .a) (x .b) (x .c) (x .e) (c .before .if1 .left)))
+    ∙ sym (ap (callOf (x .d)) (call-answer (x .kind) (x .dryer) (x .a) (x .b) (x .c) (x .e) (x .f) (c .before .if1 .left)))
 
 pub call-spec : {M : Type 1} → statement M
 call-spec = tie.close (tie.spec open-requires enter-requires returns returns-2)

@@ -18,7 +18,7 @@ use Rattle.dispatch_calls.proofs.call_at.Statement.{statement}
 use Rattle.dispatch_calls.proofs.call_at.Tie as tie
 
 abbrev start : tie.After-call → tie.Start
-start c = c .before .before .before .before .before .before .before .before .before .before
+start c = c .before .before .before .before .before .before .before .before .before .before .before
 
 -- the call has the kind, the dryer and the numbers at the place
 made : (c : tie.After-call)
@@ -30,7 +30,8 @@ made c =
     let g : SFits w32 (getD (x .numbers .now) (callNumbers * x .i + 1) (pos 0)) = search needs in
     let h : SFits w32 (getD (x .numbers .now) (callNumbers * x .i + 2) (pos 0)) = search needs in
     let k : SFits w32 (getD (x .numbers .now) (callNumbers * x .i + 3) (pos 0)) = search needs in
-    rw (read f, read g, read h, read k) at (c .call .ensures)
+    let l : SFits w32 (getD (x .numbers .now) (callNumbers * x .i + 4) (pos 0)) = search needs in
+    rw (read f, read g, read h, read k, read l) at (c .call .ensures)
 
 mul-at : tie.Need-mul-at
 mul-at c = search needs
@@ -77,6 +78,15 @@ mul-call-5 c = search needs
 shared-slice-copy-out-call-4 : tie.Need-shared-slice-copy-out-call-4
 shared-slice-copy-out-call-4 c = search needs
 
+add-call-4 : tie.Need-add-call-4
+add-call-4 c = search needs
+
+mul-call-6 : tie.Need-mul-call-6
+mul-call-6 c = search needs
+
+shared-slice-copy-out-call-5 : tie.Need-shared-slice-copy-out-call-5
+shared-slice-copy-out-call-5 c = search needs
+
 call-requires : tie.Need-call-requires
 call-requires c κs = search needs
 
@@ -122,6 +132,9 @@ call-at-spec =
     add-call-3
     mul-call-5
     shared-slice-copy-out-call-4
+    add-call-4
+    mul-call-6
+    shared-slice-copy-out-call-5
     call-requires
     mul-put-row
     row-of-requires

@@ -7,7 +7,7 @@ use mir.Syntax.{w32}
 use mir.Val.{SFits}
 use Rattle.integers.specs.Signs.{eqZ}
 use Rattle.integers.specs.Bounds.{read}
-use Rattle.rules.specs.Rules.{highest, largestTolerance}
+use Rattle.rules.specs.Rules.{highest, largestTolerance, largestShare}
 use Rattle.rules.specs.Refusals.{outside, openingRefusal}
 use Rattle.refusals.proofs.opening_refusal.Statement.{statement}
 use Rattle.refusals.proofs.opening_refusal.Tie as tie
@@ -25,6 +25,9 @@ at3 c = at2 (c .before .before .before .before)
 
 abbrev at4 : tie.After-beyond2 → tie.Start
 at4 c = at3 (c .before .before .before)
+
+abbrev at5 : tie.After-beyond3 → tie.Start
+at5 c = at4 (c .before .before .before)
 
 test1 : (c : tie.After-beyond) → outside 0 2 (at1 c .args .o .method) ≡ c .beyond .result
 test1 c =
@@ -48,6 +51,11 @@ test4 c =
     let f : SFits w32 (at4 c .args .o .tolerance) = search needs in
     sym (rw (read f) at (c .beyond2 .ensures))
 
+test5 : (c : tie.After-beyond3) → outside 0 largestShare (at5 c .args .o .share) ≡ c .beyond3 .result
+test5 c =
+    let f : SFits w32 (at5 c .args .o .share) = search needs in
+    sym (rw (read f) at (c .beyond3 .ensures))
+
 -- ---- and what it leaves where it fails
 
 passed1 : (c : tie.Else1) → outside 0 2 (at1 (c .before) .args .o .method) ≡ false
@@ -58,6 +66,9 @@ passed2 c = test2 (c .before) ∙ c .if2 .left
 
 passed3 : (c : tie.Else3) → eqZ (at3 (c .before) .args .o .first) (at3 (c .before) .args .o .second) ≡ false
 passed3 c = test3 (c .before) ∙ c .if3 .left
+
+passed4 : (c : tie.Else4) → outside 1 largestTolerance (at4 (c .before) .args .o .tolerance) ≡ false
+passed4 c = test4 (c .before) ∙ c .if4 .left
 
 beyond-requires : tie.Need-beyond-requires
 beyond-requires c κs = search needs
@@ -70,6 +81,9 @@ equal-requires c κs = search needs
 
 beyond-requires-2 : tie.Need-beyond-requires-2
 beyond-requires-2 c κs = search needs
+
+beyond-requires-3 : tie.Need-beyond-requires-3
+beyond-requires-3 c κs = search needs
 
 returns : tie.Need-returns
 unfolding openingRefusal
@@ -99,12 +113,22 @@ returns-4 c =
 returns-5 : tie.Need-returns-5
 unfolding openingRefusal
 returns-5 c =
-    let r = c .before .before .before in
+    let s = c .before .before .before in
+    let r = s .before .before .before in
     let q = r .before .before .before .before in
     let p = q .before .before .before .before in
-    simp (passed1 p, passed2 q, passed3 r, test4 (c .before) ∙ c .if4 .left)
+    simp (passed1 p, passed2 q, passed3 r, passed4 s, test5 (c .before) ∙ c .if5 .taken)
+
+returns-6 : tie.Need-returns-6
+unfolding openingRefusal
+returns-6 c =
+    let s = c .before .before .before in
+    let r = s .before .before .before in
+    let q = r .before .before .before .before in
+    let p = q .before .before .before .before in
+    simp (passed1 p, passed2 q, passed3 r, passed4 s, test5 (c .before) ∙ c .if5 .left)
 
 pub opening-refusal-spec : {M : Type 1} → statement M
 opening-refusal-spec =
     tie.close
-    (tie.spec beyond-requires returns end-beyond-requires returns-2 equal-requires returns-3 beyond-requires-2 returns-4 returns-5)
+    (tie.spec beyond-requires returns end-beyond-requires returns-2 equal-requires returns-3 beyond-requires-2 returns-4 beyond-requires-3 returns-5 returns-6)

@@ -1,4 +1,4 @@
--- `sheet_text::put_answer` meets its contract: the point and a comma, the value and CR, and LF, for which there is room.
+-- `sheet_text::put_answer` meets its contract: the point and a comma, and the value and CR LF behind them, for which there is room.
 -- Assumes nothing.
 use Prim.Native.Nat.{_+_, _<_}
 use mathlib.Core.List.{[], _∷_, _++_}
@@ -35,11 +35,11 @@ point c = puts-more (c .put-digits .ensures) (puts-byte (c .put-digits .last .0)
 slice-write-out : tie.Need-slice-write-out
 slice-write-out c = room (c .before .before)
 
-add-put-field : tie.Need-add-put-field
-add-put-field c = search needs
+add-put-last : tie.Need-add-put-last
+add-put-last c = search needs
 
-put-field-requires : tie.Need-put-field-requires
-put-field-requires c κs =
+put-last-requires : tie.Need-put-last-requires
+put-last-requires c κs =
     let d = c .before .before .before in
     let s = start-of d in
     rw (read (s .fits .value))
@@ -53,49 +53,14 @@ put-field-requires c κs =
 
 -- ---- the value, and CR LF
 
-abbrev digits-of : tie.After-put-field → tie.After-put-digits
+abbrev digits-of : tie.After-put-last → tie.After-put-digits
 digits-of c = c .before .before .before .before
 
-both : (c : tie.After-put-field)
+whole : (c : tie.After-put-last)
     → Puts (start-of (digits-of c) .args .out .now) (start-of (digits-of c) .args .at)
-    (decimalOf (start-of (digits-of c) .args .point) ++ comma ∷ [] ++ fieldText (start-of (digits-of c) .args .value) cr)
-    (c .put-field .last .0) (c .put-field .result)
-both c =
-    let s = start-of (digits-of c) in
-    puts-more (point (digits-of c)) (rw (read (s .fits .value)) at (c .put-field .ensures))
-
-room-2 : (c : tie.After-put-field) → c .put-field .result < length (c .put-field .last .0)
-room-2 c =
-    let s = start-of (digits-of c) in
-    let x = decimalOf (s .args .point) in
-    omega (
-      arith,
-      s .pre,
-      answer-length (s .args .point) (s .args .value),
-      both c .ends,
-      same-size (both c),
-      length-append (x ++ comma ∷ []) (fieldText (s .args .value) cr),
-      length-append x (comma ∷ []),
-    )
-
-slice-write-out-2 : tie.Need-slice-write-out-2
-slice-write-out-2 c = room-2 (c .before .before)
-
--- a buffer's bytes can be counted
-big : (c : tie.After-put-digits) → length (start-of c .args .out .now) < 18446744073709551616
-big c = search needs
-
-add-result : tie.Need-add-result
-add-result c =
-    let f = c .before .before in
-    record { fits = omega (arith, room-2 f, same-size (both f), big (digits-of f)) }
-
-whole : (c : tie.After-put-field)
-    → Puts (start-of (digits-of c) .args .out .now) (start-of (digits-of c) .args .at)
-    (answerText (start-of (digits-of c) .args .point) (start-of (digits-of c) .args .value))
-    (set (c .put-field .last .0) (c .put-field .result) lf) (c .put-field .result + 1)
+    (answerText (start-of (digits-of c) .args .point) (start-of (digits-of c) .args .value)) (c .put-last .last .0) (c .put-last .result)
 unfolding answerText numberText
-whole c = puts-more (both c) (puts-byte (c .put-field .last .0) (c .put-field .result) lf (room-2 c))
+whole c = puts-more (point (digits-of c)) (rw (read (start-of (digits-of c) .fits .value)) at (c .put-last .ensures))
 
 same-length : tie.Need-same-length
 same-length c = same-size (whole (c .before .before))
@@ -109,9 +74,7 @@ put-answer-spec =
     (tie.spec
     put-digits-requires
     slice-write-out
-    add-put-field
-    put-field-requires
-    slice-write-out-2
-    add-result
+    add-put-last
+    put-last-requires
     same-length
     returns)

@@ -1,4 +1,4 @@
--- `sheet_text::put_opening` meets its contract: four fields, each behind the one before, and LF, for which there is room.
+-- `sheet_text::put_opening` meets its contract: three fields, each behind the one before, and the tail, for which there is room.
 -- Assumes nothing.
 use Prim.Native.Nat.{ℕ, _+_, _≤_, _<_}
 use mathlib.Core.Path.{_≡_, sym, subst}
@@ -26,9 +26,6 @@ two o = one o ++ fieldText (o .first) comma
 
 abbrev three : Opening → List ℕ
 three o = two o ++ fieldText (o .second) comma
-
-abbrev four : Opening → List ℕ
-four o = three o ++ fieldText (o .tolerance) cr
 
 -- room for a field is room for it as the code reads its number
 as-read : (n m end : ℕ) (z : ℤ) → SFits w32 z → n + length (fieldText z end) ≤ m → n + length (fieldText (toZ w32 (ofZ w32 z)) end) ≤ m
@@ -93,53 +90,33 @@ third c = puts-more (second (c .before .before .before .before .before)) (rw (re
 three-length : (o : Opening) → length (three o) ≡ length (two o) + length (fieldText (o .second) comma)
 three-length o = length-append (two o) (fieldText (o .second) comma)
 
--- ---- τ
+-- ---- τ and p
 
 fits-tolerance : (c : tie.After-struct-told4) → SFits w32 (start-of-3 (c .before .before .before .before) .args .o .tolerance)
 fits-tolerance c = search needs
 
-put-field-requires-4 : tie.Need-put-field-requires-4
-put-field-requires-4 c κs =
-    let f = c .before .before .before .before in
+fits-share : (c : tie.After-struct-told4) → SFits w32 (start-of-3 (c .before .before .before .before) .args .o .share)
+fits-share c = search needs
+
+put-tail-requires : tie.Need-put-tail-requires
+put-tail-requires c κs =
+    let t = c .before in
+    let f = t .before .before .before .before in
     let s = start-of-3 f in
     let o = s .args .o in
-    as-read _ _ _ _ (fits-tolerance c) (omega (arith, s .pre, opening-length o, two-length o, three-length o, third f .ends, same-size (third f)))
-
-abbrev start-of-4 : tie.After-put-field4 → tie.Start
-start-of-4 c = start-of-3 (c .before .before .before .before .before)
-
-fourth : (c : tie.After-put-field4)
-    → Puts (start-of-4 c .args .out .now) (start-of-4 c .args .at) (four (start-of-4 c .args .o)) (c .put-field4 .last .0) (c .put-field4 .result)
-fourth c = puts-more (third (c .before .before .before .before .before)) (rw (read (fits-tolerance (c .before))) at (c .put-field4 .ensures))
-
-four-length : (o : Opening) → length (four o) ≡ length (three o) + length (fieldText (o .tolerance) cr)
-four-length o = length-append (three o) (fieldText (o .tolerance) cr)
-
--- ---- LF
-
-room : (c : tie.After-put-field4) → c .put-field4 .result < length (c .put-field4 .last .0)
-room c =
-    let s = start-of-4 c in
-    let o = s .args .o in
-    omega (arith, s .pre, opening-length o, two-length o, three-length o, four-length o, fourth c .ends, same-size (fourth c))
-
-slice-write-out : tie.Need-slice-write-out
-slice-write-out c = room (c .before .before)
-
-add-result : tie.Need-add-result
-add-result c = search needs
-
-whole : (c : tie.After-put-field4)
-    → Puts (start-of-4 c .args .out .now) (start-of-4 c .args .at) (openingText (start-of-4 c .args .o))
-    (set (c .put-field4 .last .0) (c .put-field4 .result) lf) (c .put-field4 .result + 1)
-unfolding openingText
-whole c = puts-more (fourth c) (puts-byte (c .put-field4 .last .0) (c .put-field4 .result) lf (room c))
+    rw (read (fits-tolerance t), read (fits-share t))
+    (omega (arith, s .pre, opening-length o, two-length o, three-length o, third f .ends, same-size (third f)))
 
 same-length : tie.Need-same-length
-same-length c = same-size (whole (c .before .before))
+same-length c = search needs
 
 returns : tie.Need-returns
-returns c = whole (c .before .before)
+unfolding openingText
+returns c =
+    let p = c .before .before in
+    let t = p .before .before in
+    let f = t .before .before .before .before in
+    puts-more (third f) (rw (read (fits-tolerance t), read (fits-share t)) at (p .put-tail .ensures))
 
 pub put-opening-spec : {M : Type 1} → statement M
 put-opening-spec =
@@ -148,8 +125,6 @@ put-opening-spec =
     put-field-requires
     put-field-requires-2
     put-field-requires-3
-    put-field-requires-4
-    slice-write-out
-    add-result
+    put-tail-requires
     same-length
     returns)

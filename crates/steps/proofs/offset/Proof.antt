@@ -1,5 +1,6 @@
 -- `steps::offset` meets its contract: what a search that goes on has brings every number into the range of the estimates.
 -- Assumes nothing.
+use Prim.Native.Nat.{_≤_}
 use mathlib.Core.Path.{_∙_}
 use native.Mathlib.Omega.{arith}
 use Rattle.rules.specs.Rules.{offsetOf}
@@ -12,6 +13,14 @@ use Rattle.steps.proofs.offset.Tie as tie
 tolerance-at-requires : tie.Need-tolerance-at-requires
 tolerance-at-requires c κs = search needs
 
+few : (c : tie.After-tolerance-at) → c .tolerance-at .result ≤ 11000
+few c =
+    let s = c .before in
+    rw (c .tolerance-at .ensures) (tolerance-most (s .args .o) (s .args .k .better .point) (s .pre .opened) (s .pre .sound .limits .better .point))
+
+cast-tolerance : tie.Need-cast-tolerance
+cast-tolerance c = record { fits = omega (arith, few c) }
+
 method-of-requires : tie.Need-method-of-requires
 method-of-requires c κs = search needs
 
@@ -20,11 +29,8 @@ step-at-requires c κs = search needs
 
 reach-requires : tie.Need-reach-requires
 reach-requires c κs =
-    let s = c .before .before .before .before in (
-      rw (c .before .before .before .tolerance-at .ensures)
-          (omega (arith, tolerance-most (s .args .o) (s .args .k .better .point) (s .pre .opened))),
-      surveyed (s .pre .sound),
-    )
+    let t = c .before .before .before in
+    (omega (arith, few t), surveyed (t .before .pre .sound))
 
 returns : tie.Need-returns
 unfolding offsetOf
@@ -35,4 +41,4 @@ returns c =
 pub offset-spec : {M : Type 1} → statement M
 offset-spec =
     tie.close
-    (tie.spec tolerance-at-requires method-of-requires step-at-requires reach-requires returns)
+    (tie.spec tolerance-at-requires cast-tolerance method-of-requires step-at-requires reach-requires returns)
