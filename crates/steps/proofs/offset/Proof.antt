@@ -13,6 +13,12 @@ use Rattle.steps.proofs.offset.Tie as tie
 tolerance-at-requires : tie.Need-tolerance-at-requires
 tolerance-at-requires c κs = search needs
 
+returns : tie.Need-returns
+unfolding offsetOf
+returns c =
+    let m = c .before .before .before in
+    c .reach .ensures ∙ rw (c .before .step-at .ensures, m .method-of .ensures, m .before .tolerance-at .ensures)
+
 few : (c : tie.After-tolerance-at) → c .tolerance-at .result ≤ 11000
 few c =
     let s = c .before in
@@ -31,12 +37,6 @@ reach-requires : tie.Need-reach-requires
 reach-requires c κs =
     let t = c .before .before .before in
     (omega (arith, few t), surveyed (t .before .pre .sound))
-
-returns : tie.Need-returns
-unfolding offsetOf
-returns c =
-    let m = c .before .before .before in
-    c .reach .ensures ∙ rw (c .before .step-at .ensures, m .method-of .ensures, m .before .tolerance-at .ensures)
 
 pub offset-spec : {M : Type 1} → statement M
 offset-spec =

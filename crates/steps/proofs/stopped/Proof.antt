@@ -11,6 +11,10 @@ use borrow.Author.Needs.{needs}
 use Rattle.steps.proofs.stopped.Statement.{statement}
 use Rattle.steps.proofs.stopped.Tie as tie
 
+returns : tie.Need-returns
+unfolding stoppedOf
+returns c = rw (c .before .width .ensures, c .tolerance-at .ensures)
+
 width-requires : tie.Need-width-requires
 width-requires c κs = search needs
 
@@ -29,10 +33,6 @@ mul-result c =
     let o = s .args .o in
     let h = tolerance-within o (s .args .k .better .point) (natAbs-le (o .tolerance) (f .sfits)) (natAbs-le (o .share) (g .sfits)) b in
     record { fits = rw (c .tolerance-at .ensures) (omega arith) }
-
-returns : tie.Need-returns
-unfolding stoppedOf
-returns c = rw (c .before .width .ensures, c .tolerance-at .ensures)
 
 pub stopped-spec : {M : Type 1} → statement M
 stopped-spec =
