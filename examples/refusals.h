@@ -29,7 +29,7 @@ static const char *refusal_in_words(uint32_t number) {
     case BUSDEKKER_TOLERANCE_OUT_OF_RANGE:
         return "the tolerance is not from 0.01 to 50.00 degrees";
     case BUSDEKKER_SHARE_OUT_OF_RANGE:
-        return "the share is not from 0 to 100: it is in parts per thousand of the setting, and 0 is none";
+        return "the share is not from 0 to 100 parts per thousand";
     case BUSDEKKER_HAD_STOPPED:
         return "the search had stopped";
     case BUSDEKKER_NOT_CALLED_FOR:

@@ -43,9 +43,11 @@ extern "C" {
  * of a dispatcher, each search so, the mark and, from version 5, the counts. What was accepted has the same report. What was refused may have
  * another: an end from 20,001 to 60,000 is no longer out of range (2), a count from 73 to 77 no longer too high (9), and a 73rd to 77th answer
  * record no longer one too many (11); search or sheet is then judged by the rest of it. Since version 7 an opening ends with a share: 4 bytes
- * more, in a search too, and 24 in a dispatcher. A host that kept a search copies its opening's four numbers, with 0 for the share, its count
- * and its slots; of a dispatcher, each search so, the mark and the counts. The reports are the same: with share 0 the tolerance at every point
- * is the tolerance. A sheet whose first record has five fields is no longer malformed (12) for that; it is judged by the rest of it. */
+ * more, in a search too, and 24 in a dispatcher. A host that sets the numbers of an opening one by one sets the share too; where four stand
+ * between braces it is 0. A host that kept a search of version 6 copies its opening's four numbers, with 0 for the share, its count and its
+ * slots; of a dispatcher, each search so, the mark and the counts. What is older is copied as said above, with 0 for the share. The reports are
+ * the same: with share 0 the tolerance at every point is the tolerance. A sheet whose first record has five fields is no longer malformed (12)
+ * for that; it is judged by the rest of it. */
 #define BUSDEKKER_VERSION 7
 
 /* The answers that a search keeps. */

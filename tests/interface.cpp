@@ -52,14 +52,15 @@ static bool limits_of_counts(busdekker_opening opening) {
 }
 
 // A share of 100 is taken, and one outside 0 to 100 refused by each call that takes an opening, after a tolerance out of range. A search that
-// holds such a share, and a sheet with it, are refused so too. The quotation is the same for every share.
+// holds such a share, and a sheet with it, are refused so too. The quotation is the same with a share of 100 and of 0.
 static bool limits_of_shares() {
-    const busdekker_opening roaster = {BUSDEKKER_M, 1000, 1250, 1, 100};
+    const busdekker_opening roaster = {BUSDEKKER_M, 1000, 1250, 1, 100}, dryer = {BUSDEKKER_M, 1000, 1250, 1, 0};
     uint8_t buffer[BUSDEKKER_LONGEST_CLEAN_SHEET];
     busdekker_search search;
     busdekker_dispatcher dispatcher = busdekker_dispatch_fresh();
     bool same = busdekker_open(&search, roaster).kind == BUSDEKKER_NEXT && search.opening.share == 100;
     same = same && busdekker_dispatch_open(&dispatcher, 0, roaster).kind == BUSDEKKER_NEXT && busdekker_quote(roaster).most == 30;
+    same = same && busdekker_quote(dryer).t == busdekker_quote(roaster).t && busdekker_quote(dryer).most == 30;
     for (const int32_t share : {-1, 101}) {
         const busdekker_opening refused = {BUSDEKKER_M, 1000, 1250, 1, share};
         const busdekker_opening twice_refused = {BUSDEKKER_M, 1000, 1250, 0, share};

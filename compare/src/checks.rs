@@ -24,6 +24,28 @@ pub fn agree<T: PartialEq + Debug>(
     ))
 }
 
+/// A mismatch unless two reports, which are counted, are the same, with the bound on the answers.
+pub fn agree_on_report(
+    opening: &Opening,
+    (model, library): (Report, Report),
+    tally: &mut Tally,
+    input: impl Fn() -> String,
+) -> Checked {
+    agree(model, library, &input)?;
+    tally.count(&library);
+    let most = model::quote(opening).most;
+    let kept = match library.kind {
+        Report::NEXT => library.taken < most,
+        Report::STOP => library.taken <= most,
+        _ => true,
+    };
+    if !kept {
+        let input = input();
+        return Err(format!("BOUND OF {most} BROKEN\n{input}\n{library:?}"));
+    }
+    Ok(())
+}
+
 /// A list of values as a sheet, with the points called for; 0 where none is.
 pub fn list_as_sheet(opening: &Opening, values: &[i32]) -> String {
     let accepted = model::refused_opening(opening).is_none();

@@ -5,7 +5,7 @@
 #![forbid(unsafe_code)]
 
 use compare::cases::{self, Oven};
-use compare::checks::{agree, list_as_sheet, search_as_sheet, Checked, Tally};
+use compare::checks::{agree, agree_on_report, list_as_sheet, search_as_sheet, Checked, Tally};
 use compare::clean::clean_sheets;
 use compare::limits::limits;
 use compare::model::{self, Book};
@@ -89,28 +89,6 @@ fn compare(rng: &mut Rng) -> Result<u64, String> {
         cases += tally.cases;
     }
     Ok(cases)
-}
-
-/// A mismatch unless two reports, which are counted, are the same, with the bound on the answers.
-fn agree_on_report(
-    opening: &Opening,
-    (model, library): (Report, Report),
-    tally: &mut Tally,
-    input: impl Fn() -> String,
-) -> Checked {
-    agree(model, library, &input)?;
-    tally.count(&library);
-    let most = model::quote(opening).most;
-    let kept = match library.kind {
-        Report::NEXT => library.taken < most,
-        Report::STOP => library.taken <= most,
-        _ => true,
-    };
-    if !kept {
-        let input = input();
-        return Err(format!("BOUND OF {most} BROKEN\n{input}\n{library:?}"));
-    }
-    Ok(())
 }
 
 /// A call on a held search.

@@ -176,11 +176,11 @@ fn estimate(method: i32, list: &[Bracket]) -> Option<Ratio> {
 
 /// Rule 3: D, from the tolerance at b.
 fn displacement(u: Option<Ratio>, length: i128, tolerance: i128) -> i128 {
-    let (zero, tau) = (Ratio::whole(0), Ratio::whole(tolerance));
+    let (zero, least) = (Ratio::whole(0), Ratio::whole(tolerance));
     let half = Ratio::new(length, 2);
     match u {
-        Some(u) if zero <= u && u <= tau => tolerance,
-        Some(u) if tau < u && u <= half => u.floor(),
+        Some(u) if zero <= u && u <= least => tolerance,
+        Some(u) if least < u && u <= half => u.floor(),
         _ => half.floor(),
     }
 }

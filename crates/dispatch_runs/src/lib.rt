@@ -7,9 +7,9 @@ use dispatching::Dispatcher;
 pub const NUMBERS_EACH: usize = dispatch_calls::NUMBERS_EACH;
 
 // As many calls as the shortest of kinds, dryers and numbers allows, five numbers to each call: an opening's method, first end, second end,
-// tolerance and share, or an answer's point and value and three that are not read. Each gets the dispatcher as the one before left it. The numbers of each
-// report are written to `rows` in turn; a short `rows` ends the run early, before the first call whose report has no room, and its further
-// numbers keep their contents.
+// tolerance and share, or an answer's point and value and three that are not read. Each gets the dispatcher as the one before left it. The
+// numbers of each report are written to `rows` in turn; a short `rows` ends the run early, before the first call whose report has no room, and
+// its further numbers keep their contents.
 pub fn make_calls(
     d: Dispatcher,
     kinds: &[u8],

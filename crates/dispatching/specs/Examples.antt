@@ -20,7 +20,7 @@ use Rattle.dispatching.specs.Calls.{oldCountAfter, ownCalls, since, hist
 
 -- ---- openings, dispatchers and runs
 
--- an opening of method M from 0 to 100, one from 0 to 1, and one with equal ends
+-- an opening of method M from 0 to 100, one from 0 to 1, one with equal ends, and one with a share out of range
 abbrev wide : Opening
 wide = record { method = pos 1; first = pos 0; second = pos 100; tolerance = pos 1; share = pos 0 }
 
@@ -29,6 +29,9 @@ narrow = record { method = pos 1; first = pos 0; second = pos 1; tolerance = pos
 
 abbrev equal : Opening
 equal = record { method = pos 1; first = pos 5; second = pos 5; tolerance = pos 1; share = pos 0 }
+
+abbrev shared : Opening
+shared = record { method = pos 1; first = pos 0; second = pos 100; tolerance = pos 1; share = pos 101 }
 
 -- the answer that a fresh search of `wide` calls for, its point and a value of 1
 abbrev first : ℕ → Call
@@ -132,6 +135,7 @@ record Worked : Type 0 where
   run-reports : reportsOf three calls
       ≡ refuse 15 0 ∷ refuse 6 0 ∷ next 100 1 ∷ refuse 15 0 ∷ refuse 16 0 ∷ refuse 3 0 ∷ refuse 14 0 ∷ refuse 14 0 ∷ next 100 1 ∷ next 0 0 ∷ next 100 1
       ∷ next 100 1 ∷ refuse 8 1 ∷ []
+  share-reports : reportsOf three (opening 1 shared ∷ opening 0 shared ∷ []) ≡ refuse 16 0 ∷ refuse 17 0 ∷ []
   run-turns : turnsOf three calls ≡ D 1 ∷ D 1 ∷ D 2 ∷ D 2 ∷ D 2 ∷ D 2 ∷ D 2 ∷ D 2 ∷ D 4 ∷ D 4 ∷ D 0 ∷ D 1 ∷ D 1 ∷ []
   run-servings : servings three calls ≡ 1 ∷ 2 ∷ 4 ∷ 0 ∷ []
   -- a count for each dryer; the old count is their sum
@@ -181,6 +185,7 @@ worked =
       alone-at-first = refl;
       first-of-all = refl;
       run-reports = refl;
+      share-reports = refl;
       run-turns = refl;
       run-servings = refl;
       run-counts = refl;

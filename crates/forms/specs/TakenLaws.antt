@@ -96,11 +96,11 @@ answer-record r point value e =
     let z : integerAt ns 0 ∷ integerAt ns 1 ∷ [] ≡ point ∷ value ∷ [] = cc in
     subst (RecordText r) (all-integers 2 ns (d .count) ∙ z) (d .text)
 
--- the opening's record is a row of four or of five
-pub record OpeningRow (r : List ℕ) (o : Opening) : Type 0 where
+-- the text of an opening is a row of four or of five
+pub record OpeningRow (text : List ℕ) (o : Opening) : Type 0 where
   pub fields : List (List ℕ)
   pub spelled : SpellsOpening fields o
-  pub whole : joined fields ≡ bodyOf r
+  pub whole : joined fields ≡ text
 
 abbrev numbersIn : List ℕ → List Number
 numbersIn r = numbersOf (bodyOf r)
@@ -119,7 +119,7 @@ module _ (r : List ℕ) (o : Opening) where
   opening-is : {k : ℕ} → MadeOf k → openingWith (numbersIn r) ≡ o
   opening-is d = let m : openedBy (numbersIn r) ≡ OpeningRecord.Opened o = d .made in cc
 
-  row-of-four : MadeOf 4 → OpeningRow r o
+  row-of-four : MadeOf 4 → OpeningRow (bodyOf r) o
   row-of-four d =
       let e : openingWith (numbersIn r) .share ≡ pos 0 = rw (d .count) refl in
       let l = all-integers 4 (numbersIn r) (d .count) ∙ ap (λ (u : Opening). openingNumbers u []) (opening-is d) in
@@ -129,7 +129,7 @@ module _ (r : List ℕ) (o : Opening) where
         whole = d .text .whole;
       }
 
-  row-of-five : MadeOf 5 → OpeningRow r o
+  row-of-five : MadeOf 5 → OpeningRow (bodyOf r) o
   row-of-five d =
       let e : integerAt (numbersIn r) 4 ≡ openingWith (numbersIn r) .share = rw (d .count) refl in
       let l =
@@ -142,13 +142,13 @@ module _ (r : List ℕ) (o : Opening) where
         whole = d .text .whole;
       }
 
-opening-record : (r : List ℕ) (o : Opening) → openingOf r ≡ OpeningRecord.Opened o → OpeningRow r o
+opening-record : (r : List ℕ) (o : Opening) → openingOf r ≡ OpeningRecord.Opened o → OpeningRow (bodyOf r) o
 unfolding openingOf
 opening-record r o = go (areNumbers 4 (numbersIn r)) refl
   where
     go : (b : Bool) → areNumbers 4 (numbersIn r) ≡ b
         → cond (b || areNumbers 5 (numbersIn r)) (openedBy (numbersIn r)) OpeningRecord.Malformed ≡ OpeningRecord.Opened o
-        → OpeningRow r o
+        → OpeningRow (bodyOf r) o
     go true n h = row-of-four r o (made-of r o 4 (rw n h))
     go false n h = row-of-five r o (made-of r o 5 h)
 
@@ -219,7 +219,7 @@ pub record Laid (text : List ℕ) : Type 0 where
   pub few : length rows ≤ slots
   pub whole : flatten (recordsWith end (map joined (head ∷ rows))) ≡ text
 
-laid : (r : List ℕ) (rs : List (List ℕ)) (o : Opening) → Lined (r ∷ rs) → OpeningRow r o → AnswersTaken (opened o) rs
+laid : (r : List ℕ) (rs : List (List ℕ)) (o : Opening) → Lined (r ∷ rs) → OpeningRow (bodyOf r) o → AnswersTaken (opened o) rs
     → Laid (flatten (r ∷ rs))
 unfolding opened
 laid r rs o l h t =

@@ -169,12 +169,12 @@ with-share h =
     (Field.bare (one-digit 1 (omega arith))) h)
     AnswersText.ended
 
-tenth : SheetText (bytes "1,0,100,1,\"100\"\r\n") (upTo100With (pos 100)) []
-tenth = with-share (Field.enclosed hundred)
+largest-share : SheetText (bytes "1,0,100,1,\"100\"\r\n") (upTo100With (pos 100)) []
+largest-share = with-share (Field.enclosed hundred)
 
 -- a fifth field of 0 is the same opening as none
-no-share : SheetText (bytes "1,0,100,1,-0\r\n") upTo100 []
-no-share = with-share (Field.bare minus-zero)
+minus-zero-share : SheetText (bytes "1,0,100,1,-0\r\n") upTo100 []
+minus-zero-share = with-share (Field.bare minus-zero)
 
 -- with −0, with leading zeros, and with some fields between double quotes; the last line end is absent
 two-answers : SheetText (bytes "1,-0,\"100\",1\r\n-0,\"-50\"\r\n100,00042") upTo100 (answer (pos 0) (negative 50) ∷ answer (pos 100) (pos 42) ∷ [])
@@ -218,8 +218,8 @@ clean-with-share =
 zero-share : SheetText (bytes "1,0,100,1,0\r\n") upTo100 []
 zero-share = with-share (Field.bare (one-digit 0 (omega arith)))
 
-no-zero-share : Clean (bytes "1,0,100,1,0\r\n") → ⊥
-no-zero-share c =
+zero-share-unclean : Clean (bytes "1,0,100,1,0\r\n") → ⊥
+zero-share-unclean c =
     let one = one-text (clean-spells c zero-share (omega arith)) clean-without-share in
     absurd (omega (arith, ap length one))
 

@@ -1,7 +1,7 @@
 -- The spelling of a trial sheet, as document 01 says it under "Held searches and sheets", with line ends and quotes as request 2026-01
 -- has them, and the fifth field of the first record as request 2026-07 has it: which bytes spell which numbers. Then the clean spelling of
--- request 2026-02, one of them. Both are relations of their own between bytes and numbers, and know nothing of how a sheet is read or written. A
--- text is the list of its bytes.
+-- requests 2026-02 and 2026-07, one of them. Both are relations of their own between bytes and numbers, and know nothing of how a sheet is
+-- read or written. A text is the list of its bytes.
 -- Assumes nothing.
 use Prim.Native.Nat.{ℕ, _+_, _*_, _≤_, _<_}
 use mathlib.Core.Path.{_≡_}
@@ -58,7 +58,7 @@ pub data OpeningText : List ℕ → Opening → Type 0 where
 pub data SheetText : List ℕ → Opening → List Answer → Type 0 where
   sheet : {r t : List ℕ} {o : Opening} {answers : List Answer} → OpeningText r o → AnswersText t answers → SheetText (r ++ t) o answers
 
--- ---- clean sheets: no quotes, no leading zeros, no −0, CR LF after every record
+-- ---- clean sheets: no quotes, no leading zeros, no −0, no fifth field where p is 0, CR LF after every record
 
 -- there is one digit, or the first is no 0
 abbrev pub NoLeadingZero : List ℕ → Type 0
@@ -76,7 +76,7 @@ pub data CleanAnswers : List ℕ → List Answer → Type 0 where
       → CleanNumeral f (a .point) → CleanNumeral g (a .value) → CleanAnswers t answers
       → CleanAnswers (f ++ comma ∷ g ++ cr ∷ lf ∷ t) (a ∷ answers)
 
--- The first record is method,x0,x1,τ where p is 0, and method,x0,x1,τ,p otherwise; and CR LF.
+-- The first record is method,x0,x1,τ where p is 0, and method,x0,x1,τ,p otherwise.
 pub data CleanOpening : List ℕ → Opening → Type 0 where
   four : {f g h k : List ℕ} {o : Opening}
       → CleanNumeral f (o .method) → CleanNumeral g (o .first) → CleanNumeral h (o .second) → CleanNumeral k (o .tolerance)
@@ -87,6 +87,7 @@ pub data CleanOpening : List ℕ → Opening → Type 0 where
       → CleanNumeral l (o .share) → (o .share ≡ pos 0 → ⊥)
       → CleanOpening (f ++ comma ∷ g ++ comma ∷ h ++ comma ∷ k ++ comma ∷ l) o
 
+-- CR LF follow it, and then the others.
 pub data CleanText : List ℕ → Opening → List Answer → Type 0 where
   sheet : {r t : List ℕ} {o : Opening} {answers : List Answer} → CleanOpening r o → CleanAnswers t answers
       → CleanText (r ++ cr ∷ lf ∷ t) o answers

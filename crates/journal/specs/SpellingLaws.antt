@@ -24,7 +24,7 @@ use Rattle.forms.specs.TextLaws.{LineEnd, after, recordsWith}
 use Rattle.forms.specs.FieldLaws.{FieldText, joined, number-field, enclosed-field, field-text}
 use Rattle.forms.specs.Entries.{fieldOf, filled, entriesOf}
 use Rattle.forms.specs.ReadingLaws.{Spells, SpellsOpening, SpellsAnswers, entries-read}
-use Rattle.forms.specs.TakenLaws.{Laid, entries-laid}
+use Rattle.forms.specs.TakenLaws.{OpeningRow, Laid, entries-laid}
 use Rattle.journal.specs.Answers.{points, values}
 use Rattle.journal.specs.Spelling.{digit, Digits, Numeral, Field, AnswersText, OpeningText, SheetText}
 use Rattle.journal.specs.Reading.{ReadAs, Reading}
@@ -131,19 +131,14 @@ answers-fielded (AnswersText.next {f} {g} p v r) =
     }
 
 -- the first record is a row of fields
-record Headed (r : List ℕ) (o : Opening) : Type 0 where
-  fields : List (List ℕ)
-  spelled : SpellsOpening fields o
-  text : joined fields ≡ r
-
-opening-fielded : {r : List ℕ} {o : Opening} → OpeningText r o → Headed r o
+opening-fielded : {r : List ℕ} {o : Opening} → OpeningText r o → OpeningRow r o
 opening-fielded (OpeningText.four {f} {g} {h} {k} m x y w e) =
     let row = Spells.more (field-read m) (Spells.more (field-read x) (Spells.more (field-read y) (Spells.more (field-read w) Spells.none))) in
-    record { fields = f ∷ g ∷ h ∷ k ∷ []; spelled = SpellsOpening.four row e; text = simp append-assoc }
+    record { fields = f ∷ g ∷ h ∷ k ∷ []; spelled = SpellsOpening.four row e; whole = simp append-assoc }
 opening-fielded (OpeningText.five {f} {g} {h} {k} {l} m x y w p) =
     let tail = Spells.more (field-read w) (Spells.more (field-read p) Spells.none) in
     let row = Spells.more (field-read m) (Spells.more (field-read x) (Spells.more (field-read y) tail)) in
-    record { fields = f ∷ g ∷ h ∷ k ∷ l ∷ []; spelled = SpellsOpening.five row; text = simp append-assoc }
+    record { fields = f ∷ g ∷ h ∷ k ∷ l ∷ []; spelled = SpellsOpening.five row; whole = simp append-assoc }
 
 -- the whole text is the first row and what stands after it
 whole-text : (end : List ℕ) (head : List (List ℕ)) (rows : List (List (List ℕ)))
@@ -157,7 +152,7 @@ spelled-read (SheetText.sheet {r = r} {o = o} {answers = answers} head t) l =
     let a = answers-fielded t in
     let h = opening-fielded head in
     let e = entries-read o (a .line-end) (h .spelled) (a .spelled) (omega (arith, a .count)) in
-    subst₂ (λ (u v : List ℕ). ReadAs (u ++ v) o answers) (h .text) (a .text)
+    subst₂ (λ (u v : List ℕ). ReadAs (u ++ v) o answers) (h .whole) (a .text)
     (subst (λ (u : List ℕ). ReadAs u o answers) (whole-text (a .end) (h .fields) (a .rows)) e)
 
 -- ---- and what is read is spelled

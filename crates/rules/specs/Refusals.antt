@@ -12,7 +12,7 @@ use Rattle.integers.specs.Signs.{eqZ}
 use Rattle.rules.specs.declared.Opening.{Opening}
 use Rattle.rules.specs.Rules.{highest, largestTolerance, largestShare, largestValue}
 
--- ---- the numbers, in document 01's words
+-- ---- the numbers, in the papers' words
 
 -- method not 0, 1 or 2
 abbrev pub unknownMethod : ℕ
@@ -30,7 +30,7 @@ endsEqual = 3
 abbrev pub toleranceOutOfRange : ℕ
 toleranceOutOfRange = 4
 
--- p out of range, checked after 4
+-- p outside 0 to 100
 abbrev pub shareOutOfRange : ℕ
 shareOutOfRange = 17
 

@@ -23,7 +23,7 @@ use Rattle.rules.specs.Rules.{toleranceAt, closer, pairOf, startOf, lowe
 use Rattle.rules.specs.Rules.{displacementOf, rising, opposed, partnerOf, halves, streakOf, renewedOf, advanceOf, allowed, stepOf}
 use Rattle.rules.specs.Rules.{reachOf, offsetOf, nextOf}
 
--- ---- Rule 3: while the search goes on, D is from τ to half of L
+-- ---- Rule 3: while the search goes on, D is from the tolerance at b, here τ, to half of L
 
 pub record Reach (τ L D : ℕ) : Type 0 where
   pub low : τ ≤ D

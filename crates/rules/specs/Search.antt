@@ -124,7 +124,7 @@ distanceOf o = gapOf (firstOf o) (secondOf o)
 unfoldable pub turnsOf : ℕ → ℕ → ℕ
 turnsOf τ W = digits ((W - 1) / (2 * τ))
 
--- t
+-- t, from τ alone, whatever p is
 abbrev pub tOf : Opening → ℕ
 tOf o = turnsOf (natAbs (o .tolerance)) (distanceOf o)
 

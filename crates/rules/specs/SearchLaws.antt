@@ -21,7 +21,7 @@ use Rattle.rules.specs.declared.Sample.{Sample}
 use Rattle.rules.specs.declared.Bracket.{Bracket}
 use Rattle.rules.specs.declared.Progress.{Progress}
 use Rattle.rules.specs.declared.Report.{Report}
-use Rattle.rules.specs.Rules.{highest, largestValue, slots, methodOf, firstOf, secondOf, toleranceAt, closer}
+use Rattle.rules.specs.Rules.{highest, largestTolerance, largestShare, largestValue, slots, methodOf, firstOf, secondOf, toleranceAt, closer}
 use Rattle.rules.specs.Rules.{pairOf, startOf, lowerOf, upperOf, widthOf, stoppedOf, partnerOf, thirdOf, streakOf, renewedOf}
 use Rattle.rules.specs.Rules.{advanceOf, allowed, reachOf, offsetOf, nextOf}
 use Rattle.rules.specs.RulesLaws.{Ahead, next-ahead, offset-in, going-wide, Straddles, partner-is, Advance, advance-by, advance-is, advance-counts}
@@ -58,14 +58,14 @@ pub tolerance-least : (o : Opening) (b : ℕ) → natAbs (o .tolerance) ≤ tole
 unfolding toleranceAt
 tolerance-least o b = omega arith
 
--- and what it is at most, where τ, p and b are
+-- from bounds on τ, p and b
 pub tolerance-within : (o : Opening) (b : ℕ) {τ p q : ℕ} → natAbs (o .tolerance) ≤ τ → natAbs (o .share) ≤ p → b ≤ q
     → toleranceAt o b ≤ τ + p * q / 1000
 unfolding toleranceAt
 tolerance-within o b h g k = omega (arith, mul-le-mul g k)
 
--- 5,000 and a tenth of 60,000
-pub tolerance-most : (o : Opening) (b : ℕ) → Opened o → b ≤ highest → toleranceAt o b ≤ 11000
+-- with the largest τ and p at the highest point
+pub tolerance-most : (o : Opening) (b : ℕ) → Opened o → b ≤ highest → toleranceAt o b ≤ largestTolerance + largestShare * highest / 1000
 tolerance-most o b op h = tolerance-within o b (op .tolerance .most) (op .share .most) h
 
 pub going-wider : (o : Opening) (k : Bracket) → stoppedOf o k ≡ false → 2 * natAbs (o .tolerance) < widthOf k

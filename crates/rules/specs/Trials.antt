@@ -148,7 +148,7 @@ shares =
     -- L = 135: not yet. u = 45, so D is the tolerance, 67
     ∷ sharing (pos 1) (pos 21000) (pos 21135) (pos 25) (pos 2) (pos 1 ∷ minus 2 ∷ []) (Next 21067 2)
     ∷ sharing (pos 1) (pos 20865) (pos 21000) (pos 25) (pos 2) (minus 2 ∷ pos 1 ∷ []) (Next 20933 2)
-    -- the whole part of b/1,000: 0 at 999, 1 at 1,000
+    -- the whole part of p × b / 1,000 with p = 1: 0 at 999, 1 at 1,000
     ∷ sharing (pos 1) (pos 999) (pos 1002) (pos 1) (pos 1) (pos 1 ∷ minus 2 ∷ []) (Next 1000 2)
     ∷ sharing (pos 1) (pos 1000) (pos 1004) (pos 1) (pos 1) (pos 1 ∷ minus 2 ∷ []) (Stop 1000 1004 1000 2)
     ∷ sharing (pos 1) (pos 1000) (pos 1005) (pos 1) (pos 1) (pos 1 ∷ minus 2 ∷ []) (Next 1002 2)
@@ -159,6 +159,12 @@ shares =
     -- b on target: D is 10 + 20 from 2,000, and 10 + 40 from 4,000; by R too
     ∷ sharing (pos 1) (pos 2000) (pos 4000) (pos 10) (pos 10) (pos 0 ∷ pos 5 ∷ []) (Next 2030 2)
     ∷ sharing (pos 2) (pos 4000) (pos 2000) (pos 10) (pos 10) (pos 0 ∷ pos 5 ∷ []) (Next 3950 2)
+    -- p × b first, then the whole part: at 21,789 it is 25 + 43 = 68. L = 136: stopped
+    ∷ sharing (pos 1) (pos 21653) (pos 21789) (pos 25) (pos 2) (minus 5 ∷ pos 1 ∷ []) (Stop 21653 21789 21789 2)
+    -- a rational step, u = 62 and a part, from b = 21,727: D is 68; then the stop
+    ∷ sharing (pos 2) (pos 18000) (pos 26000) (pos 25) (pos 2) (pos 690 ∷ minus 169 ∷ minus 134 ∷ pos 41 ∷ pos 5 ∷ []) (Next 21795 5)
+    ∷ sharing (pos 2) (pos 18000) (pos 26000) (pos 25) (pos 2) (pos 690 ∷ minus 169 ∷ minus 134 ∷ pos 41 ∷ pos 5 ∷ minus 1 ∷ [])
+    (Stop 21727 21795 21795 6)
     -- 17 comes after 4, and the limits of p are taken
     ∷ sharing (pos 1) (pos 0) (pos 100) (pos 0) (pos 101) [] (Refused 4 0)
     ∷ sharing (pos 1) (pos 0) (pos 100) (pos 1) (pos 101) [] (Refused 17 0)

@@ -1,4 +1,4 @@
-// What one pass over the bytes of a text finds, as types. There is no function here: see specs/.
+// What a scanner of a text finds, as types. There is no function here: see specs/.
 use rules::Opening;
 
 // A number, and the place where the scanner goes on.
@@ -7,7 +7,7 @@ pub enum NumberScan {
     Malformed,
 }
 
-// Two numbers with a comma between them, and the place where the scanner goes on.
+// Two numbers with a comma between them, or, where an opening ends after its tolerance, that and 0; and the place where the scanner goes on.
 pub enum PairScan {
     Are {
         first: i32,

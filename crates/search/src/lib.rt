@@ -37,7 +37,7 @@ fn turns(tolerance: u32, distance: u32) -> u32
     32 - u32::leading_zeros((distance - 1) / (2 * tolerance))
 }
 
-// t and the most answers that an opening may need, or its refusal.
+// t and the most answers that an opening may need, from τ alone whatever the share is; or its refusal.
 pub fn quote(o: Opening) -> Quote
     ensures { λ r. ⌜ r ≡ quoteOf o ⌝ }
 {

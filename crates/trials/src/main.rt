@@ -179,7 +179,7 @@ fn try_junk(count: u32) {
 }
 
 // Eleven calls to a dispatcher, by kind, dryer and numbers: openings for dryers 4, 1 and 2; an answer out of turn, one at another point, and
-// one for dryer 1, which has the turn; openings for an unfinished search, with equal ends, and for dryer 6; answers for dryers 2 and 4.
+// one for dryer 1, which has the turn; openings for an unfinished search, with a share of 101, and for dryer 6; answers for dryers 2 and 4.
 const KINDS: [u8; 11] = [0, 0, 0, 1, 1, 1, 0, 0, 0, 1, 1];
 
 const DRYERS: [u32; 11] = [4, 1, 2, 4, 1, 1, 1, 0, 6, 2, 4];
@@ -199,7 +199,7 @@ const NUMBERS: [i32; 55] = [
     0,
     100,
     1,
-    0,
+    20,
     0,
     1,
     0,
@@ -221,10 +221,10 @@ const NUMBERS: [i32; 55] = [
     1,
     0,
     1,
-    5,
-    5,
-    1,
     0,
+    100,
+    1,
+    101,
     1,
     0,
     100,

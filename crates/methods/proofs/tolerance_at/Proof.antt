@@ -1,7 +1,7 @@
 -- `methods::tolerance_at` meets its contract: in 64 bits the product of two numbers of 32 bits fits, and a thousandth of it leaves room for a third.
 -- Assumes nothing.
-use Prim.Native.Nat.{_+_, _*_, _/_, _≤_}
-use mathlib.Core.Path.{_≡_, ap, _∙_}
+use Prim.Native.Nat.{_*_, _≤_}
+use mathlib.Core.Path.{ap, _∙_}
 use native.Mathlib.Nat.{mul-le-mul}
 use native.Mathlib.Omega.{arith}
 use lib.IntN.{natAbs}

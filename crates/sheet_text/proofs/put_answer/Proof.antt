@@ -3,13 +3,13 @@
 use Prim.Native.Nat.{_+_, _<_}
 use mathlib.Core.List.{[], _∷_, _++_}
 use native.Mathlib.Omega.{arith}
-use lib.ListN.{length, set, length-append}
+use lib.ListN.{length, set}
 use borrow.Author.Needs.{needs}
 use Rattle.integers.specs.Bounds.{read}
-use Rattle.forms.specs.Bytes.{cr, lf, comma}
+use Rattle.forms.specs.Bytes.{comma}
 use Rattle.lines.specs.Decimal.{decimalOf}
 use Rattle.clean_sheets.specs.Clean.{numberText}
-use Rattle.sheet_text.specs.Pieces.{fieldText, answerText, Puts}
+use Rattle.sheet_text.specs.Pieces.{answerText, Puts}
 use Rattle.sheet_text.specs.PiecesLaws.{answer-length, same-size, puts-more, puts-byte}
 use Rattle.sheet_text.proofs.put_answer.Statement.{statement}
 use Rattle.sheet_text.proofs.put_answer.Tie as tie

@@ -1,19 +1,19 @@
 -- `sheet_text::put_opening` meets its contract: three fields, each behind the one before, and the tail, for which there is room.
 -- Assumes nothing.
-use Prim.Native.Nat.{ℕ, _+_, _≤_, _<_}
+use Prim.Native.Nat.{ℕ, _+_, _≤_}
 use mathlib.Core.Path.{_≡_, sym, subst}
 use mathlib.Core.List.{List, _++_}
 use native.Mathlib.Omega.{arith}
 use lib.IntN.{ℤ}
-use lib.ListN.{length, set, length-append}
+use lib.ListN.{length, length-append}
 use mir.Syntax.{w32}
 use mir.Val.{SFits, toZ, ofZ}
 use borrow.Author.Needs.{needs}
 use Rattle.integers.specs.Bounds.{read}
 use Rattle.rules.specs.declared.Opening.{Opening}
-use Rattle.forms.specs.Bytes.{cr, lf, comma}
+use Rattle.forms.specs.Bytes.{comma}
 use Rattle.sheet_text.specs.Pieces.{fieldText, openingText, Puts}
-use Rattle.sheet_text.specs.PiecesLaws.{opening-length, same-size, puts-more, puts-byte}
+use Rattle.sheet_text.specs.PiecesLaws.{opening-length, same-size, puts-more}
 use Rattle.sheet_text.proofs.put_opening.Statement.{statement}
 use Rattle.sheet_text.proofs.put_opening.Tie as tie
 

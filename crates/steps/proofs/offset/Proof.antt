@@ -3,6 +3,7 @@
 use Prim.Native.Nat.{_≤_}
 use mathlib.Core.Path.{_∙_}
 use native.Mathlib.Omega.{arith}
+use Rattle.interpolation.specs.Ranges.{widest}
 use Rattle.rules.specs.Rules.{offsetOf}
 use Rattle.rules.specs.SearchLaws.{tolerance-most}
 use Rattle.steps.specs.ReadyLaws.{surveyed}
@@ -19,10 +20,11 @@ returns c =
     let m = c .before .before .before in
     c .reach .ensures ∙ rw (c .before .step-at .ensures, m .method-of .ensures, m .before .tolerance-at .ensures)
 
-few : (c : tie.After-tolerance-at) → c .tolerance-at .result ≤ 11000
+few : (c : tie.After-tolerance-at) → c .tolerance-at .result ≤ widest
 few c =
     let s = c .before in
-    rw (c .tolerance-at .ensures) (tolerance-most (s .args .o) (s .args .k .better .point) (s .pre .opened) (s .pre .sound .limits .better .point))
+    let h = tolerance-most (s .args .o) (s .args .k .better .point) (s .pre .opened) (s .pre .sound .limits .better .point) in
+    rw (c .tolerance-at .ensures) (omega arith)
 
 cast-tolerance : tie.Need-cast-tolerance
 cast-tolerance c = record { fits = omega (arith, few c) }
