@@ -28,6 +28,14 @@ cast-result c = search needs
 abbrev start-of : tie.After-magnitude2 → tie.Start
 start-of c = c .before .before .before .before
 
+returns : tie.Need-returns
+unfolding toleranceAt
+returns c =
+    let s = start-of c in
+    let f : SFits w32 (s .args .o .share) = search needs in
+    let g : SFits w32 (s .args .o .tolerance) = search needs in
+    cc (c .before .before .magnitude .ensures ∙ ap natAbs (read f), c .magnitude2 .ensures ∙ ap natAbs (read g))
+
 product-most : (c : tie.After-magnitude2) → c .before .before .magnitude .result * start-of c .args .b ≤ 4294967295 * 4294967295
 product-most c =
     let p : c .before .before .magnitude .result ≤ 4294967295 = search needs in
@@ -41,14 +49,6 @@ add-result : tie.Need-add-result
 add-result c =
     let t : c .magnitude2 .result ≤ 4294967295 = search needs in
     record { fits = omega (arith, product-most c) }
-
-returns : tie.Need-returns
-unfolding toleranceAt
-returns c =
-    let s = start-of c in
-    let f : SFits w32 (s .args .o .share) = search needs in
-    let g : SFits w32 (s .args .o .tolerance) = search needs in
-    cc (c .before .before .magnitude .ensures ∙ ap natAbs (read f), c .magnitude2 .ensures ∙ ap natAbs (read g))
 
 pub tolerance-at-spec : {M : Type 1} → statement M
 tolerance-at-spec =
