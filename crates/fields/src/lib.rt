@@ -2,7 +2,7 @@
 // or the end of the text after each.
 ghost use mathlib.Core.Path.{_≡_};
 ghost use Prim.Native.Nat.{_<_};
-ghost use Rattle.scanning.specs.Scan.{beforeByte, beforeEnd, beforeNext, fieldAt, leadingAt, pairAt, tailAt};
+ghost use Rattle.scanning.specs.Scan.{beforeByte, beforeEnd, beforeNext, fieldAt, pairAt};
 use scanning::NumberScan;
 use scanning::PairScan;
 
@@ -79,11 +79,11 @@ fn scan_field(s: &[u8], from: usize) -> NumberScan
     }
 }
 
-// A field that a comma follows: on past the comma.
-pub fn scan_leading(s: &[u8], from: usize) -> NumberScan
-    ensures { λ r. ⌜ r ≡ leadingAt (now (s .entry)) from ⌝ }
+// A field that is the last of its record: on past the record.
+pub fn scan_last(s: &[u8], from: usize) -> NumberScan
+    ensures { λ r. ⌜ r ≡ beforeEnd (now (s .entry)) (fieldAt (now (s .entry)) from) ⌝ }
 {
-    before_byte(s, scan_field(s, from), COMMA)
+    before_end(s, scan_field(s, from))
 }
 
 // Two fields with a comma between them; after the second CR LF or the end of the text follow if it is the last of its record, and a
@@ -94,7 +94,7 @@ pub fn scan_pair(s: &[u8], from: usize, last: bool) -> PairScan
     let NumberScan::Is {
         value: first,
         next: middle,
-    } = scan_leading(s, from)
+    } = before_byte(s, scan_field(s, from), COMMA)
     else {
         return PairScan::Malformed;
     };
@@ -109,19 +109,5 @@ pub fn scan_pair(s: &[u8], from: usize, last: bool) -> PairScan
         first,
         second,
         next,
-    }
-}
-
-// The fields that end a record: one, the second number then being 0, or two. The first is scanned again where a comma follows it.
-pub fn scan_tail(s: &[u8], from: usize) -> PairScan
-    ensures { λ r. ⌜ r ≡ tailAt (now (s .entry)) from ⌝ }
-{
-    match before_end(s, scan_field(s, from)) {
-        NumberScan::Is { value, next } => PairScan::Are {
-            first: value,
-            second: 0,
-            next,
-        },
-        NumberScan::Malformed => scan_pair(s, from, true),
     }
 }

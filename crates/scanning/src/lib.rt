@@ -7,7 +7,7 @@ pub enum NumberScan {
     Malformed,
 }
 
-// Two numbers with a comma between them, or, where an opening ends after its tolerance, that and 0; and the place where the scanner goes on.
+// Two numbers with a comma between them, and the place where the scanner goes on.
 pub enum PairScan {
     Are {
         first: i32,

@@ -6,24 +6,29 @@ use Prim.Native.Nat.{ℕ}
 use mir.Syntax.{w32}
 use mir.Val.{toZ, ofZ}
 use Rattle.scanning.specs.declared.NumberScan.{NumberScan}
-use Rattle.scanning.specs.Scan.{beforeNext, leadingAt, pairWith, pairFrom, pairAt}
+use Rattle.scanning.specs.Scan.{fieldAt, beforeComma, beforeNext, pairWith, pairFrom, pairAt}
 use borrow.Author.Needs.{needs}
 use Rattle.fields.proofs.scan_pair.Statement.{statement}
 use Rattle.fields.proofs.scan_pair.Tie as tie
 
 -- the first number was found
 abbrev start-of : tie.After-first → tie.Start
-start-of c = c .before .before .before .before
+start-of c = c .before .before .before .before .before
 
 abbrev textOf : tie.After-first → List ℕ
 textOf c = start-of c .args .s .now
 
 first-found : (c : tie.After-first)
-    → leadingAt (textOf c) (start-of c .args .from) ≡ NumberScan.Is (c .first .given .0 .0) (c .first .given .0 .1 .0)
-first-found c = sym (c .before .before .scan-leading .ensures) ∙ c .first .given .1
+    → beforeComma (textOf c) (fieldAt (textOf c) (start-of c .args .from)) ≡ NumberScan.Is (c .first .given .0 .0) (c .first .given .0 .1 .0)
+first-found c =
+    let b = c .before .before in
+    ap (beforeComma (textOf c)) (sym (b .before .scan-field .ensures)) ∙ sym (b .before-byte .ensures) ∙ c .first .given .1
 
-scan-leading-requires : tie.Need-scan-leading-requires
-scan-leading-requires c κs = search needs
+scan-field-requires : tie.Need-scan-field-requires
+scan-field-requires c κs = search needs
+
+before-byte-requires : tie.Need-before-byte-requires
+before-byte-requires c κs = search needs
 
 enum-known-first : tie.Need-enum-known-first
 enum-known-first c = search needs
@@ -35,11 +40,13 @@ returns : tie.Need-returns
 unfolding pairAt
 returns c =
     let b = c .before .before in
-    let a = b .before .before .args in
-    sym (ap (pairFrom (a .last) (a .s .now)) (sym (b .scan-leading .ensures) ∙ c .enum-told .given .1))
+    let a = b .before .before .before .args in
+    sym
+    (ap (pairFrom (a .last) (a .s .now))
+    (ap (beforeComma (a .s .now)) (sym (b .before .scan-field .ensures)) ∙ sym (b .before-byte .ensures) ∙ c .enum-told .given .1))
 
-scan-field-requires : tie.Need-scan-field-requires
-scan-field-requires c κs = search needs
+scan-field-requires-2 : tie.Need-scan-field-requires-2
+scan-field-requires-2 c κs = search needs
 
 before-next-requires : tie.Need-before-next-requires
 before-next-requires c κs = search needs
@@ -59,7 +66,7 @@ returns-2 c =
     sym
     (ap (pairFrom (a .last) (a .s .now)) (first-found p)
     ∙ ap (pairWith (p .first .given .0 .0))
-    (ap (beforeNext (a .last) (a .s .now)) (sym (b .before .scan-field .ensures)) ∙ sym (b .before-next .ensures) ∙ c .enum-told2 .given .1))
+    (ap (beforeNext (a .last) (a .s .now)) (sym (b .before .scan-field2 .ensures)) ∙ sym (b .before-next .ensures) ∙ c .enum-told2 .given .1))
 
 returns-3 : tie.Need-returns-3
 unfolding pairAt
@@ -74,17 +81,18 @@ returns-3 c =
     (sym
     (ap (pairFrom (a .last) (a .s .now)) (first-found p)
     ∙ ap (pairWith (p .first .given .0 .0))
-    (ap (beforeNext (a .last) (a .s .now)) (sym (b .before .scan-field .ensures)) ∙ sym (b .before-next .ensures) ∙ v .second .given .1)))
+    (ap (beforeNext (a .last) (a .s .now)) (sym (b .before .scan-field2 .ensures)) ∙ sym (b .before-next .ensures) ∙ v .second .given .1)))
 
 pub scan-pair-spec : {M : Type 1} → statement M
 scan-pair-spec =
     tie.close
     (tie.spec
-    scan-leading-requires
+    scan-field-requires
+    before-byte-requires
     enum-known-first
     enum-told
     returns
-    scan-field-requires
+    scan-field-requires-2
     before-next-requires
     enum-known-second
     enum-told-2
