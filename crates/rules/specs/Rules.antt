@@ -1,5 +1,5 @@
--- Rules 1 to 8 of document 01, in its order and its terms: of a bracket, b is `better`, c `other`, a `previous`, d `third`,
--- L its width and s its streak; F(p) is the value of the sample p.
+-- Rules 1 to 8 of document 01, in its order and its terms, 2 and 3 with the tolerance at b of request 2026-07: of a bracket, b is `better`,
+-- c `other`, a `previous`, d `third`, L its width and s its streak; F(p) is the value of the sample p.
 -- Assumes nothing.
 use Prim.Native.Nat.{ℕ, _+_, _-_, _*_, _/_, _≤_, min, max}
 use mathlib.Core.Bool.{Bool, true, false, cond, _||_}
