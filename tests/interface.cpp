@@ -80,8 +80,8 @@ static bool limits_of_shares() {
     return same && search.opening.share == 100;
 }
 
-// The tolerance at 1250 is 1 + 125, and a bracket of 250 with its better end there stops; at 1000 it is 1 + 100, and the next point so far away.
-// The sheet has the share in a fifth field, and without it the search goes on from 1250 too.
+// The tolerance at 1250 is 1 + 125, and a bracket of 250 with its better end there stops; at 1000 it is 1 + 100, and the next point is so far
+// from it. The sheet has the share in a fifth field, and without it the search goes on from 1250 too.
 static bool tolerance_with_a_share() {
     const busdekker_opening roaster = {BUSDEKKER_M, 1000, 1250, 1, 100};
     const int32_t upper_better[] = {-5, 1}, lower_better[] = {1, -5};

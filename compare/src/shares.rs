@@ -346,8 +346,8 @@ const AFTER: [&str; 16] = [
     "\r\n0,-5,0,0,0\r\n",
 ];
 
-/// Fields for answers: the first is the point called for, the second a value, the others spell 0, in
-/// form and out of it.
+/// Fields for answers: the first is the point called for, the second a value; the others are 0 in other
+/// spellings, one of them with a digit too many, nothing, and a letter.
 const OF_ANSWER: [&str; 7] = ["0", "-5", "\"0\"", "-00000", "000000", "", "x"];
 
 /// The most fields that are tried in an answer.

@@ -60,15 +60,11 @@ answersText (a ∷ answers) = numberText (a .point) ++ comma ∷ numberText (a .
 abbrev pub shareText : ℤ → List ℕ
 shareText p = cond (eqZ p (pos 0)) [] (comma ∷ numberText p)
 
--- method,x0,x1,τ or method,x0,x1,τ,p
-unfoldable pub openingFields : Opening → List ℕ
-openingFields o =
-    numberText (o .method) ++ comma ∷ numberText (o .first) ++ comma ∷ numberText (o .second) ++ comma ∷ numberText (o .tolerance)
-    ++ shareText (o .share)
-
--- the opening and CR LF, then the answers
+-- method,x0,x1,τ or method,x0,x1,τ,p and CR LF, then the answers
 unfoldable pub sheetText : Opening → List Answer → List ℕ
-sheetText o answers = openingFields o ++ cr ∷ lf ∷ answersText answers
+sheetText o answers =
+    numberText (o .method) ++ comma ∷ numberText (o .first) ++ comma ∷ numberText (o .second) ++ comma ∷ numberText (o .tolerance)
+    ++ shareText (o .share) ++ cr ∷ lf ∷ answersText answers
 
 unfoldable pub cleanOf : Search → List ℕ
 cleanOf s = sheetText (s .opening) (heldAnswers s)

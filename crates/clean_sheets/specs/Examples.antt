@@ -22,19 +22,18 @@ use Rattle.lines.specs.Decimal.{decimalWithin, decimalOf, numberFields}
 use Rattle.printing.specs.Printed.{recordWith, recordOf, placed}
 use Rattle.outcomes.specs.Sheet.{outcomeOf, sheetOf}
 use Rattle.clean_sheets.specs.declared.Written.{Written}
-use Rattle.clean_sheets.specs.Clean.{withPoints, numberText, answersText, openingFields, sheetText, cleanOf, longestSheet, writtenOf, bufferOf}
-use Rattle.clean_sheets.specs.Clean.{cleanedOf, rewrittenOf}
+use Rattle.clean_sheets.specs.Clean.{withPoints, numberText, answersText, sheetText, cleanOf, longestSheet, writtenOf, bufferOf, cleanedOf, rewrittenOf}
 
 -- the values held, and 7 in the slots past them
 abbrev holds : Opening → List ℤ → Search
 holds o vs = record { opening = o; count = length vs; slots = take slots (vs ++ replicate slots (pos 7)) }
 
-abbrev sharing : (method first second tolerance share : ℕ) → Opening
-sharing method first second tolerance share =
+abbrev withShare : (method first second tolerance share : ℕ) → Opening
+withShare method first second tolerance share =
     record { method = pos method; first = pos first; second = pos second; tolerance = pos tolerance; share = pos share }
 
 abbrev opening : (method first second tolerance : ℕ) → Opening
-opening method first second tolerance = sharing method first second tolerance 0
+opening method first second tolerance = withShare method first second tolerance 0
 
 -- ---- the sheet of a search
 
@@ -57,8 +56,8 @@ sheets =
     ∷ sheet (holds upTo100 (negative 50 ∷ pos 100 ∷ negative 10 ∷ negative 2 ∷ pos 1 ∷ []))
     "1,0,100,1\r\n0,-50\r\n100,100\r\n33,-10\r\n41,-2\r\n43,1\r\n"
     -- with a share: at 100 the tolerance is 1 + 10, so 89 is called for
-    ∷ sheet (holds (sharing 2 60000 0 5000 1) []) "2,60000,0,5000,1\r\n"
-    ∷ sheet (holds (sharing 1 100 0 1 100) (negative 2 ∷ pos 100 ∷ negative 10 ∷ [])) "1,100,0,1,100\r\n100,-2\r\n0,100\r\n89,-10\r\n"
+    ∷ sheet (holds (withShare 2 60000 0 5000 1) []) "2,60000,0,5000,1\r\n"
+    ∷ sheet (holds (withShare 1 100 0 1 100) (negative 2 ∷ pos 100 ∷ negative 10 ∷ [])) "1,100,0,1,100\r\n100,-2\r\n0,100\r\n89,-10\r\n"
     ∷ []
 
 abbrev AllClean : List Sheet → Type 0
@@ -68,7 +67,7 @@ AllClean (x ∷ xs) = (cleanOf (x .search) ≡ x .text) × AllClean xs
 sheets-hold : AllClean sheets
 unfolding methodOf toleranceAt startOf stoppedOf forwardOf displacementOf linearOf crossOf rationalOf doubledOf opposed partnerOf streakOf
     renewedOf advanceOf stepOf reachOf offsetOf nextOf openingRefusal answerRefusal sameSide beginOf offerOf takeOf decimalWithin decimalOf
-    withPoints numberText answersText openingFields sheetText cleanOf
+    withPoints numberText answersText sheetText cleanOf
 sheets-hold = (refl, (refl, (refl, (refl, (refl, (refl, (refl, tt)))))))
 
 -- the bound
@@ -110,7 +109,7 @@ AllWritten (x ∷ xs) =
 
 writings-hold : AllWritten writings
 unfolding openingRefusal answerRefusal sameSide beginOf offerOf takeOf progressOf reportAt standingOf heldReport decimalWithin decimalOf
-    withPoints numberText answersText openingFields sheetText cleanOf placed writtenOf bufferOf
+    withPoints numberText answersText sheetText cleanOf placed writtenOf bufferOf
 writings-hold = (refl, refl, (refl, refl, (refl, refl, (refl, refl, (refl, refl, (refl, refl, (refl, refl, tt)))))))
 
 -- ---- a sheet cleaned
@@ -146,5 +145,5 @@ cleanings-hold : AllCleaned cleanings
 unfolding toleranceAt startOf stoppedOf methodOf forwardOf displacementOf linearOf stepOf reachOf offsetOf nextOf openingRefusal answerRefusal sameSide
     beginOf offerOf takeOf answersOf bracketReport reportAt recordsOf fieldsOf allDigits valueFrom signedOf numberOf fieldOf answerOf
     openingOf refused opened entered answersFrom recordsRead entriesOf outcomeOf sheetOf decimalWithin decimalOf numberFields recordWith recordOf
-    withPoints numberText answersText openingFields sheetText cleanOf cleanedOf
+    withPoints numberText answersText sheetText cleanOf cleanedOf
 cleanings-hold = (refl, (refl, (refl, (refl, (refl, (refl, (refl, (refl, tt))))))))

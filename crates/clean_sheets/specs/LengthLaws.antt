@@ -17,7 +17,7 @@ use Rattle.rules.specs.Search.{takeOf}
 use Rattle.forms.specs.Bytes.{comma}
 use Rattle.lines.specs.DecimalLaws.{decimal-length}
 use Rattle.journal.specs.SpellingLaws.{Spellable, SpellableAnswers}
-use Rattle.clean_sheets.specs.Clean.{calledAt, withPoints, numberText, answersText, shareText, openingFields, sheetText}
+use Rattle.clean_sheets.specs.Clean.{calledAt, withPoints, numberText, answersText, shareText, sheetText}
 
 -- ---- numbers
 
@@ -56,7 +56,7 @@ sheet-length : (o : Opening) (answers : List Answer)
     → length (sheetText o answers)
     ≡ length (numberText (o .method)) + length (numberText (o .first)) + length (numberText (o .second)) + length (numberText (o .tolerance)) + 5
     + length (shareText (o .share)) + length (answersText answers)
-unfolding sheetText openingFields
+unfolding sheetText
 sheet-length o answers = rw (length-append, length-append, length-append, length-append, length-append) (omega arith)
 
 -- a comma and three digits, or nothing

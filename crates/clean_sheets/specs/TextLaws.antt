@@ -1,9 +1,9 @@
 -- The text of an opening and answers is clean, where the numbers have five digits at most.
 -- Assumes nothing.
 use Prim.Native.Nat.{ℕ, zero, suc, _/_, _%_, _≤_}
-use mathlib.Core.Path.{_≡_, refl, sym, ap, subst₂, _∙_}
+use mathlib.Core.Path.{_≡_, refl, sym, ap, subst, subst₂, _∙_}
 use mathlib.Core.Bool.{Bool, true, false, cond}
-use mathlib.Core.List.{List, [], _∷_, _++_, append-nil}
+use mathlib.Core.List.{List, [], _∷_}
 use mathlib.Core.Logic.{inl, inr}
 use native.Mathlib.Nat.{div-add-mod'}
 use native.Mathlib.Omega.{arith}
@@ -16,9 +16,9 @@ use Rattle.rules.specs.declared.Answer.{Answer}
 use Rattle.lines.specs.Decimal.{decimalOf}
 use Rattle.lines.specs.DecimalLaws.{by-digits, decimal-one, decimal-more, decimal-prints, decimal-length}
 use Rattle.forms.specs.Bytes.{comma}
-use Rattle.journal.specs.Spelling.{Digits, mostDigits, NoLeadingZero, CleanNumeral, CleanAnswers, CleanOpening, CleanText}
+use Rattle.journal.specs.Spelling.{Digits, mostDigits, NoLeadingZero, CleanNumeral, CleanAnswers, CleanShare, CleanText}
 use Rattle.journal.specs.SpellingLaws.{Spellable, SpellableOpening, SpellableAnswers}
-use Rattle.clean_sheets.specs.Clean.{numberText, answersText, openingFields, sheetText}
+use Rattle.clean_sheets.specs.Clean.{numberText, answersText, shareText, sheetText}
 
 decimal-digits : (n : ℕ) → Digits (decimalOf n) n
 decimal-digits = by-digits (λ n. Digits (decimalOf n) n) (λ n h. rw (decimal-one n h) (Digits.one n (omega arith))) more
@@ -43,22 +43,15 @@ unfolding answersText
 answers-clean [] h = CleanAnswers.none
 answers-clean (a ∷ answers) h = CleanAnswers.next (number-clean (a .point) (h .0)) (number-clean (a .value) (h .1)) (answers-clean answers (h .2))
 
-opening-clean : (o : Opening) → SpellableOpening o → CleanOpening (openingFields o) o
-unfolding openingFields
-opening-clean o h = go (eqZ (o .share) (pos 0)) refl
+share-clean : (p : ℤ) → Spellable p → CleanShare (shareText p) p
+share-clean p h = go (eqZ p (pos 0)) refl
   where
-    four-fields : List ℕ
-    four-fields = numberText (o .method) ++ comma ∷ numberText (o .first) ++ comma ∷ numberText (o .second) ++ comma ∷ numberText (o .tolerance)
-
-    go : (b : Bool) → eqZ (o .share) (pos 0) ≡ b → CleanOpening (four-fields ++ cond b [] (comma ∷ numberText (o .share))) o
-    go true e =
-        rw (append-nil four-fields)
-        (CleanOpening.four (number-clean (o .method) (h .method)) (number-clean (o .first) (h .first)) (number-clean (o .second) (h .second))
-        (number-clean (o .tolerance) (h .tolerance)) (eqZ-true (o .share) (pos 0) e))
-    go false e =
-        CleanOpening.five (number-clean (o .method) (h .method)) (number-clean (o .first) (h .first)) (number-clean (o .second) (h .second))
-        (number-clean (o .tolerance) (h .tolerance)) (number-clean (o .share) (h .share)) (λ z. never (sym (eq-eqZ (o .share) (pos 0) z) ∙ e))
+    go : (b : Bool) → eqZ p (pos 0) ≡ b → CleanShare (cond b [] (comma ∷ numberText p)) p
+    go true e = subst (CleanShare []) (sym (eqZ-true p (pos 0) e)) CleanShare.absent
+    go false e = CleanShare.present (number-clean p h) (λ z. never (sym (eq-eqZ p (pos 0) z) ∙ e))
 
 pub text-clean : (o : Opening) (answers : List Answer) → SpellableOpening o → SpellableAnswers answers → CleanText (sheetText o answers) o answers
 unfolding sheetText
-text-clean o answers h k = CleanText.sheet (opening-clean o h) (answers-clean answers k)
+text-clean o answers h k =
+    CleanText.sheet (number-clean (o .method) (h .method)) (number-clean (o .first) (h .first)) (number-clean (o .second) (h .second))
+    (number-clean (o .tolerance) (h .tolerance)) (share-clean (o .share) (h .share)) (answers-clean answers k)

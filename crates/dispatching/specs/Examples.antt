@@ -30,8 +30,8 @@ narrow = record { method = pos 1; first = pos 0; second = pos 1; tolerance = pos
 abbrev equal : Opening
 equal = record { method = pos 1; first = pos 5; second = pos 5; tolerance = pos 1; share = pos 0 }
 
-abbrev shared : Opening
-shared = record { method = pos 1; first = pos 0; second = pos 100; tolerance = pos 1; share = pos 101 }
+abbrev refusedShare : Opening
+refusedShare = record { method = pos 1; first = pos 0; second = pos 100; tolerance = pos 1; share = pos 101 }
 
 -- the answer that a fresh search of `wide` calls for, its point and a value of 1
 abbrev first : ℕ → Call
@@ -135,7 +135,7 @@ record Worked : Type 0 where
   run-reports : reportsOf three calls
       ≡ refuse 15 0 ∷ refuse 6 0 ∷ next 100 1 ∷ refuse 15 0 ∷ refuse 16 0 ∷ refuse 3 0 ∷ refuse 14 0 ∷ refuse 14 0 ∷ next 100 1 ∷ next 0 0 ∷ next 100 1
       ∷ next 100 1 ∷ refuse 8 1 ∷ []
-  share-reports : reportsOf three (opening 1 shared ∷ opening 0 shared ∷ []) ≡ refuse 16 0 ∷ refuse 17 0 ∷ []
+  share-reports : reportsOf three (opening 1 refusedShare ∷ opening 0 refusedShare ∷ []) ≡ refuse 16 0 ∷ refuse 17 0 ∷ []
   run-turns : turnsOf three calls ≡ D 1 ∷ D 1 ∷ D 2 ∷ D 2 ∷ D 2 ∷ D 2 ∷ D 2 ∷ D 2 ∷ D 4 ∷ D 4 ∷ D 0 ∷ D 1 ∷ D 1 ∷ []
   run-servings : servings three calls ≡ 1 ∷ 2 ∷ 4 ∷ 0 ∷ []
   -- a count for each dryer; the old count is their sum

@@ -8,7 +8,7 @@ use mathlib.Core.Bool.{Bool, true, false, cond, _||_}
 use mathlib.Core.List.{List, [], _∷_, map, flatten}
 use native.Mathlib.Omega.{arith}
 use lib.ListN.{length}
-use lib.IntN.{ℤ, pos}
+use lib.IntN.{ℤ}
 use lib.Dec.{eqb, ltb}
 use borrow.Author.Tests.{eqb-true, eqb-false}
 use Rattle.rules.specs.declared.Opening.{Opening}
@@ -25,7 +25,7 @@ use Rattle.forms.specs.Entries.{refused, opened, entered, answersFrom, r
 use Rattle.forms.specs.TextLaws.{LineEnd, Lined, recordsWith, records-whole, records-lined}
 use Rattle.forms.specs.FieldLaws.{joined, fields-whole}
 use Rattle.forms.specs.NumberLaws.{both}
-use Rattle.forms.specs.ReadingLaws.{Spells, openingNumbers, SpellsOpening, SpellsAnswers}
+use Rattle.forms.specs.ReadingLaws.{Spells, ShareNumbers, openingNumbers, SpellsOpening, SpellsAnswers}
 
 -- ---- a record that is read is a row
 
@@ -102,55 +102,39 @@ pub record OpeningRow (text : List ℕ) (o : Opening) : Type 0 where
   pub spelled : SpellsOpening fields o
   pub whole : joined fields ≡ text
 
-abbrev numbersIn : List ℕ → List Number
-numbersIn r = numbersOf (bodyOf r)
-
 -- what four or five numbers make
 abbrev openedBy : List Number → OpeningRecord
 openedBy ns = OpeningRecord.Opened (openingWith ns)
 
 module _ (r : List ℕ) (o : Opening) where
+  abbrev numbers : List Number
+  numbers = numbersOf (bodyOf r)
+
   abbrev MadeOf : ℕ → Type 0
   MadeOf k = Made k r openedBy (OpeningRecord.Opened o)
 
-  made-of : (k : ℕ) → cond (areNumbers k (numbersIn r)) (openedBy (numbersIn r)) OpeningRecord.Malformed ≡ OpeningRecord.Opened o → MadeOf k
+  made-of : (k : ℕ) → cond (areNumbers k numbers) (openedBy numbers) OpeningRecord.Malformed ≡ OpeningRecord.Opened o → MadeOf k
   made-of k = record-read k r openedBy OpeningRecord.Malformed (OpeningRecord.Opened o) (λ b. let n : _≡_ {A = ℕ} 0 1 = cc in omega arith)
 
-  opening-is : {k : ℕ} → MadeOf k → openingWith (numbersIn r) ≡ o
-  opening-is d = let m : openedBy (numbersIn r) ≡ OpeningRecord.Opened o = d .made in cc
+  -- a row of k numbers, where zs stand after τ
+  row-of : (k : ℕ) (zs : List ℤ) → MadeOf k → integersFrom 0 k numbers ≡ openingNumbers (openingWith numbers) zs
+      → ShareNumbers zs (openingWith numbers .share) → OpeningRow (bodyOf r) o
+  row-of k zs d e h =
+      let m : openedBy numbers ≡ OpeningRecord.Opened o = d .made in
+      let same : openingWith numbers ≡ o = cc in
+      let spelled = subst (Spells (d .text .fields)) (all-integers k numbers (d .count) ∙ e) (d .text .spelled) in
+      subst (OpeningRow (bodyOf r)) same
+      (record { fields = d .text .fields; spelled = record { rest = zs; share = h; numbers = spelled }; whole = d .text .whole })
 
-  row-of-four : MadeOf 4 → OpeningRow (bodyOf r) o
-  row-of-four d =
-      let e : openingWith (numbersIn r) .share ≡ pos 0 = rw (d .count) refl in
-      let l = all-integers 4 (numbersIn r) (d .count) ∙ ap (λ (u : Opening). openingNumbers u []) (opening-is d) in
-      record {
-        fields = d .text .fields;
-        spelled = SpellsOpening.four (subst (Spells (d .text .fields)) l (d .text .spelled)) (sym (ap (λ (u : Opening). u .share) (opening-is d)) ∙ e);
-        whole = d .text .whole;
-      }
-
-  row-of-five : MadeOf 5 → OpeningRow (bodyOf r) o
-  row-of-five d =
-      let e : integerAt (numbersIn r) 4 ≡ openingWith (numbersIn r) .share = rw (d .count) refl in
-      let l =
-      all-integers 5 (numbersIn r) (d .count)
-      ∙ ap (λ (z : ℤ). openingNumbers (openingWith (numbersIn r)) (z ∷ [])) e
-      ∙ ap (λ (u : Opening). openingNumbers u (u .share ∷ [])) (opening-is d) in
-      record {
-        fields = d .text .fields;
-        spelled = SpellsOpening.five (subst (Spells (d .text .fields)) l (d .text .spelled));
-        whole = d .text .whole;
-      }
-
-opening-record : (r : List ℕ) (o : Opening) → openingOf r ≡ OpeningRecord.Opened o → OpeningRow (bodyOf r) o
-unfolding openingOf
-opening-record r o = go (areNumbers 4 (numbersIn r)) refl
-  where
-    go : (b : Bool) → areNumbers 4 (numbersIn r) ≡ b
-        → cond (b || areNumbers 5 (numbersIn r)) (openedBy (numbersIn r)) OpeningRecord.Malformed ≡ OpeningRecord.Opened o
-        → OpeningRow (bodyOf r) o
-    go true n h = row-of-four r o (made-of r o 4 (rw n h))
-    go false n h = row-of-five r o (made-of r o 5 h)
+  opening-record : openingOf r ≡ OpeningRecord.Opened o → OpeningRow (bodyOf r) o
+  unfolding openingOf
+  opening-record = go (areNumbers 4 numbers) refl
+    where
+      go : (b : Bool) → areNumbers 4 numbers ≡ b
+          → cond (b || areNumbers 5 numbers) (openedBy numbers) OpeningRecord.Malformed ≡ OpeningRecord.Opened o
+          → OpeningRow (bodyOf r) o
+      go true n h = let d = made-of 4 (rw n h) in row-of 4 [] d refl (rw (d .count) ShareNumbers.absent)
+      go false n h = let d = made-of 5 h in row-of 5 (integerAt numbers 4 ∷ []) d refl (rw (d .count) ShareNumbers.present)
 
 -- ---- the answers' records are rows
 

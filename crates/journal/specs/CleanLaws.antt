@@ -18,8 +18,8 @@ use Rattle.rules.specs.declared.Opening.{Opening}
 use Rattle.rules.specs.declared.Answer.{Answer}
 use Rattle.rules.specs.Rules.{slots}
 use Rattle.forms.specs.Bytes.{cr, lf, comma, minus, doubleQuote}
-use Rattle.journal.specs.Spelling.{digit, Digits, Numeral, Field, AnswersText, OpeningText, SheetText}
-use Rattle.journal.specs.Spelling.{NoLeadingZero, CleanNumeral, CleanAnswers, CleanOpening, CleanText, Clean}
+use Rattle.journal.specs.Spelling.{digit, Digits, Numeral, Field, AnswersText, ShareText, SheetText}
+use Rattle.journal.specs.Spelling.{NoLeadingZero, CleanNumeral, CleanAnswers, CleanShare, CleanText, Clean}
 use Rattle.journal.specs.SpellingLaws.{some-digit, spelled-read, reading}
 
 -- ---- a clean text is one that the reader takes
@@ -33,12 +33,13 @@ clean-answers : {t : List ℕ} {answers : List Answer} → CleanAnswers t answer
 clean-answers CleanAnswers.none = AnswersText.ended
 clean-answers (CleanAnswers.next p v r) = AnswersText.next (clean-field p) (clean-field v) (clean-answers r)
 
-clean-opening : {r : List ℕ} {o : Opening} → CleanOpening r o → OpeningText r o
-clean-opening (CleanOpening.four m x y w e) = OpeningText.four (clean-field m) (clean-field x) (clean-field y) (clean-field w) e
-clean-opening (CleanOpening.five m x y w p n) = OpeningText.five (clean-field m) (clean-field x) (clean-field y) (clean-field w) (clean-field p)
+clean-share : {s : List ℕ} {p : ℤ} → CleanShare s p → ShareText s p
+clean-share CleanShare.absent = ShareText.absent
+clean-share (CleanShare.present p n) = ShareText.present (clean-field p)
 
 pub clean-sheet : {t : List ℕ} {o : Opening} {answers : List Answer} → CleanText t o answers → SheetText t o answers
-clean-sheet (CleanText.sheet head r) = SheetText.sheet (clean-opening head) (clean-answers r)
+clean-sheet (CleanText.sheet m x y w p r) =
+    SheetText.sheet (clean-field m) (clean-field x) (clean-field y) (clean-field w) (clean-share p) (clean-answers r)
 
 -- ---- digits with no leading zero are those of one number only
 
@@ -98,87 +99,95 @@ one-answers CleanAnswers.none CleanAnswers.none = refl
 one-answers (CleanAnswers.next p v r) (CleanAnswers.next q w s) =
     λ i. one-numeral p q i ++ comma ∷ one-numeral v w i ++ cr ∷ lf ∷ one-answers r s i
 
-one-opening : {r s : List ℕ} {o : Opening} → CleanOpening r o → CleanOpening s o → r ≡ s
-one-opening (CleanOpening.four a b c d z) (CleanOpening.four e f g h w) =
-    λ i. one-numeral a e i ++ comma ∷ one-numeral b f i ++ comma ∷ one-numeral c g i ++ comma ∷ one-numeral d h i
-one-opening (CleanOpening.four a b c d z) (CleanOpening.five e f g h p n) = absurd (n z)
-one-opening (CleanOpening.five a b c d p n) (CleanOpening.four e f g h w) = absurd (n w)
-one-opening (CleanOpening.five a b c d p n) (CleanOpening.five e f g h q m) =
-    λ i. one-numeral a e i ++ comma ∷ one-numeral b f i ++ comma ∷ one-numeral c g i ++ comma ∷ one-numeral d h i ++ comma ∷ one-numeral p q i
+one-share : {s t : List ℕ} {p : ℤ} → CleanShare s p → CleanShare t p → s ≡ t
+one-share CleanShare.absent CleanShare.absent = refl
+one-share CleanShare.absent (CleanShare.present q m) = absurd (m refl)
+one-share (CleanShare.present p n) CleanShare.absent = absurd (n refl)
+one-share (CleanShare.present p n) (CleanShare.present q m) = ap (λ (f : List ℕ). comma ∷ f) (one-numeral p q)
 
 pub one-text : {t u : List ℕ} {o : Opening} {answers : List Answer} → CleanText t o answers → CleanText u o answers → t ≡ u
-one-text (CleanText.sheet a r) (CleanText.sheet b s) = λ i. one-opening a b i ++ cr ∷ lf ∷ one-answers r s i
+one-text (CleanText.sheet a b c d p r) (CleanText.sheet e f g h q s) =
+    λ i. one-numeral a e i ++ comma ∷ one-numeral b f i ++ comma ∷ one-numeral c g i ++ comma ∷ one-numeral d h i ++ one-share p q i
+    ++ cr ∷ lf ∷ one-answers r s i
 
--- ---- a clean text has a line end for each record, and a text that spells n answers has no more than n + 1
+-- ---- a clean text has one LF for each record, and a text that spells n answers has no more than n + 1
 
-unfoldable lineEnds : List ℕ → ℕ
-lineEnds [] = 0
-lineEnds (b ∷ s) = cond (eqb b lf) 1 0 + lineEnds s
+unfoldable lineFeeds : List ℕ → ℕ
+lineFeeds [] = 0
+lineFeeds (b ∷ s) = cond (eqb b lf) 1 0 + lineFeeds s
 
-ends-append : (s t : List ℕ) → lineEnds (s ++ t) ≡ lineEnds s + lineEnds t
-unfolding lineEnds
-ends-append [] t = sym (zero-add (lineEnds t))
-ends-append (b ∷ s) t = omega (arith, ends-append s t)
+feeds-append : (s t : List ℕ) → lineFeeds (s ++ t) ≡ lineFeeds s + lineFeeds t
+unfolding lineFeeds
+feeds-append [] t = sym (zero-add (lineFeeds t))
+feeds-append (b ∷ s) t = omega (arith, feeds-append s t)
 
 -- a byte that is no LF
-other-byte : (b : ℕ) (s : List ℕ) → (b ≡ lf → ⊥) → lineEnds (b ∷ s) ≡ lineEnds s
-unfolding lineEnds
-other-byte b s h = simp (ne-eqb b lf h) (zero-add (lineEnds s))
+other-byte : (b : ℕ) (s : List ℕ) → (b ≡ lf → ⊥) → lineFeeds (b ∷ s) ≡ lineFeeds s
+unfolding lineFeeds
+other-byte b s h = simp (ne-eqb b lf h) (zero-add (lineFeeds s))
 
-digits-ends : {s : List ℕ} {n : ℕ} → Digits s n → lineEnds s ≡ 0
-unfolding lineEnds
-digits-ends (Digits.one d h) = other-byte (digit d) [] (λ e. absurd (omega arith))
-digits-ends (Digits.more {s} r d h) =
-    omega (arith, ends-append s (digit d ∷ []), digits-ends r, other-byte (digit d) [] (λ e. absurd (omega arith)))
+digits-feeds : {s : List ℕ} {n : ℕ} → Digits s n → lineFeeds s ≡ 0
+unfolding lineFeeds
+digits-feeds (Digits.one d h) = other-byte (digit d) [] (λ e. absurd (omega arith))
+digits-feeds (Digits.more {s} r d h) =
+    omega (arith, feeds-append s (digit d ∷ []), digits-feeds r, other-byte (digit d) [] (λ e. absurd (omega arith)))
 
-numeral-ends : {f : List ℕ} {z : ℤ} → Numeral f z → lineEnds f ≡ 0
-unfolding lineEnds
-numeral-ends (Numeral.plain r h) = digits-ends r
-numeral-ends (Numeral.negated {s} r h) = omega (arith, digits-ends r)
+numeral-feeds : {f : List ℕ} {z : ℤ} → Numeral f z → lineFeeds f ≡ 0
+unfolding lineFeeds
+numeral-feeds (Numeral.plain r h) = digits-feeds r
+numeral-feeds (Numeral.negated {s} r h) = omega (arith, digits-feeds r)
 
-field-ends : {f : List ℕ} {z : ℤ} → Field f z → lineEnds f ≡ 0
-unfolding lineEnds
-field-ends (Field.bare n) = numeral-ends n
-field-ends (Field.enclosed {s} n) = omega (arith, ends-append s (doubleQuote ∷ []), numeral-ends n)
+field-feeds : {f : List ℕ} {z : ℤ} → Field f z → lineFeeds f ≡ 0
+unfolding lineFeeds
+field-feeds (Field.bare n) = numeral-feeds n
+field-feeds (Field.enclosed {s} n) = omega (arith, feeds-append s (doubleQuote ∷ []), numeral-feeds n)
 
 -- one field more, after a comma
-more-ends : (s : List ℕ) {f : List ℕ} {z : ℤ} → lineEnds s ≡ 0 → Field f z → lineEnds (s ++ comma ∷ f) ≡ 0
-unfolding lineEnds
-more-ends s {f} e h = omega (arith, ends-append s (comma ∷ f), field-ends h)
+more-feeds : (s : List ℕ) {f : List ℕ} {z : ℤ} → lineFeeds s ≡ 0 → Field f z → lineFeeds (s ++ comma ∷ f) ≡ 0
+unfolding lineFeeds
+more-feeds s {f} e h = omega (arith, feeds-append s (comma ∷ f), field-feeds h)
 
-opening-ends : {r : List ℕ} {o : Opening} → OpeningText r o → lineEnds r ≡ 0
-opening-ends (OpeningText.four {f} {g} {h} m x y w e) =
-    more-ends (f ++ comma ∷ g ++ comma ∷ h) (more-ends (f ++ comma ∷ g) (more-ends f (field-ends m) x) y) w
-opening-ends (OpeningText.five {f} {g} {h} {k} m x y w p) =
-    let three = more-ends (f ++ comma ∷ g) (more-ends f (field-ends m) x) y in
-    more-ends (f ++ comma ∷ g ++ comma ∷ h ++ comma ∷ k) (more-ends (f ++ comma ∷ g ++ comma ∷ h) three w) p
+share-feeds : {s : List ℕ} {p : ℤ} → ShareText s p → lineFeeds s ≡ 0
+unfolding lineFeeds
+share-feeds ShareText.absent = refl
+share-feeds (ShareText.present {f} h) = more-feeds [] refl h
 
-answers-ends : {t : List ℕ} {answers : List Answer} → AnswersText t answers → lineEnds t ≤ 1 + length answers
-unfolding lineEnds
-answers-ends AnswersText.unended = omega arith
-answers-ends AnswersText.ended = omega arith
-answers-ends (AnswersText.next {f} {g} {t} p v r) =
-    omega (arith, ends-append (f ++ comma ∷ g) t, more-ends f (field-ends p) v, answers-ends r)
+-- the first record has none
+opening-feeds : {f g h k s : List ℕ} {m x y w p : ℤ} → Field f m → Field g x → Field h y → Field k w → ShareText s p
+    → (t : List ℕ) → lineFeeds (f ++ comma ∷ g ++ comma ∷ h ++ comma ∷ k ++ s ++ t) ≡ lineFeeds t
+opening-feeds {f} {g} {h} {k} {s} m x y w p t =
+    let three = more-feeds (f ++ comma ∷ g) (more-feeds f (field-feeds m) x) y in
+    let four = f ++ comma ∷ g ++ comma ∷ h ++ comma ∷ k in
+    omega (arith, feeds-append (four ++ s) t, feeds-append four s, more-feeds (f ++ comma ∷ g ++ comma ∷ h) three w, share-feeds p)
 
-sheet-ends : {text : List ℕ} {o : Opening} {answers : List Answer} → SheetText text o answers → lineEnds text ≤ 1 + length answers
-sheet-ends (SheetText.sheet {r} {t} head a) = omega (arith, ends-append r t, opening-ends head, answers-ends a)
+answers-feeds : {t : List ℕ} {answers : List Answer} → AnswersText t answers → lineFeeds t ≤ 1 + length answers
+unfolding lineFeeds
+answers-feeds AnswersText.unended = omega arith
+answers-feeds AnswersText.ended = omega arith
+answers-feeds (AnswersText.next {f} {g} {t} p v r) =
+    omega (arith, feeds-append (f ++ comma ∷ g) t, more-feeds f (field-feeds p) v, answers-feeds r)
 
-clean-ends : {t : List ℕ} {answers : List Answer} → CleanAnswers t answers → lineEnds t ≡ length answers
-unfolding lineEnds
-clean-ends CleanAnswers.none = refl
-clean-ends (CleanAnswers.next {f} {g} {t} p v r) =
-    omega (arith, ends-append (f ++ comma ∷ g) (cr ∷ lf ∷ t), more-ends f (field-ends (clean-field p)) (clean-field v), clean-ends r)
+sheet-feeds : {text : List ℕ} {o : Opening} {answers : List Answer} → SheetText text o answers → lineFeeds text ≤ 1 + length answers
+sheet-feeds (SheetText.sheet {t = t} m x y w p a) = omega (arith, opening-feeds m x y w p t, answers-feeds a)
 
-cleaned-ends : {text : List ℕ} {o : Opening} {answers : List Answer} → CleanText text o answers → lineEnds text ≡ 1 + length answers
-unfolding lineEnds
-cleaned-ends (CleanText.sheet {r} {t} head a) =
-    omega (arith, ends-append r (cr ∷ lf ∷ t), opening-ends (clean-opening head), clean-ends a)
+clean-answers-feeds : {t : List ℕ} {answers : List Answer} → CleanAnswers t answers → lineFeeds t ≡ length answers
+unfolding lineFeeds
+clean-answers-feeds CleanAnswers.none = refl
+clean-answers-feeds (CleanAnswers.next {f} {g} {t} p v r) =
+    let row = more-feeds f (field-feeds (clean-field p)) (clean-field v) in
+    omega (arith, feeds-append (f ++ comma ∷ g) (cr ∷ lf ∷ t), row, clean-answers-feeds r)
+
+clean-sheet-feeds : {text : List ℕ} {o : Opening} {answers : List Answer} → CleanText text o answers → lineFeeds text ≡ 1 + length answers
+unfolding lineFeeds
+clean-sheet-feeds (CleanText.sheet {t = t} m x y w p a) =
+    let head = opening-feeds (clean-field m) (clean-field x) (clean-field y) (clean-field w) (clean-share p) (cr ∷ lf ∷ t) in
+    omega (arith, head, clean-answers-feeds a)
 
 -- ---- so a clean text that spells an opening and no more answers than a search holds is their clean text
 
 pub clean-spells : {text : List ℕ} {o : Opening} {answers : List Answer} → Clean text → SheetText text o answers → length answers ≤ slots
     → CleanText text o answers
 clean-spells {text} {o} {answers} c s few =
-    let fewer : length (c .1) ≤ length answers = omega (arith, sheet-ends s, cleaned-ends (c .2)) in
+    let fewer : length (c .1) ≤ length answers = omega (arith, sheet-feeds s, clean-sheet-feeds (c .2)) in
     let e = reading text .once (c .0) o (c .1) answers (spelled-read (clean-sheet (c .2)) (omega arith)) (spelled-read s few) in
     subst₂ (CleanText text) (e .0) (e .1) (c .2)

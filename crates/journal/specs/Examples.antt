@@ -25,8 +25,8 @@ use Rattle.forms.specs.Number.{allDigits, valueFrom, signedOf, numberOf}
 use Rattle.forms.specs.Entries.{integerOf, fieldOf}
 use Rattle.forms.specs.Bytes.{cr, lf}
 use Rattle.forms.specs.Examples.{bytes, upTo100With, upTo100, negative}
-use Rattle.journal.specs.Spelling.{digit, Digits, Numeral, Field, AnswersText, OpeningText, SheetText}
-use Rattle.journal.specs.Spelling.{CleanNumeral, CleanAnswers, CleanOpening, CleanText, Clean}
+use Rattle.journal.specs.Spelling.{digit, Digits, Numeral, Field, AnswersText, ShareText, SheetText}
+use Rattle.journal.specs.Spelling.{CleanNumeral, CleanAnswers, CleanShare, CleanText, Clean}
 use Rattle.journal.specs.SpellingLaws.{field-read}
 use Rattle.journal.specs.CleanLaws.{clean-field, one-numeral, one-text, clean-spells}
 use Rattle.journal.specs.Journal.{stopOf, pointCalled, journalReport, refusalOf, journalWith, toldOf, journalAfter, toldAll, bracketsOf}
@@ -147,40 +147,36 @@ enclosed-fifty = Field.enclosed minus-fifty
 
 -- ---- sheets and their bytes
 
--- an opening alone, with its line end and without
-no-answer : {t : List ℕ} → AnswersText t [] → SheetText (bytes "1,0,100,1" ++ t) upTo100 []
-no-answer r =
-    SheetText.sheet
-    (OpeningText.four (Field.bare (one-digit 1 (omega arith))) (Field.bare (one-digit 0 (omega arith))) (Field.bare hundred)
-    (Field.bare (one-digit 1 (omega arith))) refl)
-    r
+-- an opening, its fifth field or none, and what follows
+up-to-100 : {s t : List ℕ} {p : ℤ} {answers : List Answer} → ShareText s p → AnswersText t answers
+    → SheetText (bytes "1,0,100,1" ++ s ++ t) (upTo100With p) answers
+up-to-100 =
+    SheetText.sheet (Field.bare (one-digit 1 (omega arith))) (Field.bare (one-digit 0 (omega arith))) (Field.bare hundred)
+    (Field.bare (one-digit 1 (omega arith)))
 
+-- alone, with its line end and without
 opening-ended : SheetText (bytes "1,0,100,1\r\n") upTo100 []
-opening-ended = no-answer AnswersText.ended
+opening-ended = up-to-100 ShareText.absent AnswersText.ended
 
 opening-unended : SheetText (bytes "1,0,100,1") upTo100 []
-opening-unended = no-answer AnswersText.unended
+opening-unended = up-to-100 ShareText.absent AnswersText.unended
 
 -- with a fifth field, for p
-with-share : {f : List ℕ} {p : ℤ} → Field f p → SheetText (bytes "1,0,100,1," ++ f ++ cr ∷ lf ∷ []) (upTo100With p) []
-with-share h =
-    SheetText.sheet
-    (OpeningText.five (Field.bare (one-digit 1 (omega arith))) (Field.bare (one-digit 0 (omega arith))) (Field.bare hundred)
-    (Field.bare (one-digit 1 (omega arith))) h)
-    AnswersText.ended
-
 largest-share : SheetText (bytes "1,0,100,1,\"100\"\r\n") (upTo100With (pos 100)) []
-largest-share = with-share (Field.enclosed hundred)
+largest-share = up-to-100 (ShareText.present (Field.enclosed hundred)) AnswersText.ended
 
 -- a fifth field of 0 is the same opening as none
+zero-share : SheetText (bytes "1,0,100,1,0\r\n") upTo100 []
+zero-share = up-to-100 (ShareText.present (Field.bare (one-digit 0 (omega arith)))) AnswersText.ended
+
 minus-zero-share : SheetText (bytes "1,0,100,1,-0\r\n") upTo100 []
-minus-zero-share = with-share (Field.bare minus-zero)
+minus-zero-share = up-to-100 (ShareText.present (Field.bare minus-zero)) AnswersText.ended
 
 -- with −0, with leading zeros, and with some fields between double quotes; the last line end is absent
 two-answers : SheetText (bytes "1,-0,\"100\",1\r\n-0,\"-50\"\r\n100,00042") upTo100 (answer (pos 0) (negative 50) ∷ answer (pos 100) (pos 42) ∷ [])
 two-answers =
-    SheetText.sheet
-    (OpeningText.four (Field.bare (one-digit 1 (omega arith))) (Field.bare minus-zero) (Field.enclosed hundred) (Field.bare (one-digit 1 (omega arith))) refl)
+    SheetText.sheet (Field.bare (one-digit 1 (omega arith))) (Field.bare minus-zero) (Field.enclosed hundred) (Field.bare (one-digit 1 (omega arith)))
+    ShareText.absent
     (AnswersText.next (Field.bare minus-zero) enclosed-fifty
     (AnswersText.next (Field.bare hundred) (Field.bare leading-zeros) AnswersText.unended))
 
@@ -196,28 +192,23 @@ clean-hundred =
 clean-minus-fifty : CleanNumeral (bytes "-50") (negative 50)
 clean-minus-fifty = CleanNumeral.negated (Digits.more (Digits.one 5 (omega arith)) 0 (omega arith)) (omega arith) (inr (omega arith)) (omega arith)
 
+clean-up-to-100 : {s t : List ℕ} {p : ℤ} {answers : List Answer} → CleanShare s p → CleanAnswers t answers
+    → CleanText (bytes "1,0,100,1" ++ s ++ cr ∷ lf ∷ t) (upTo100With p) answers
+clean-up-to-100 = CleanText.sheet (clean-digit 1 (omega arith)) (clean-digit 0 (omega arith)) clean-hundred (clean-digit 1 (omega arith))
+
 one-clean-answer : CleanText (bytes "1,0,100,1\r\n0,-50\r\n") upTo100 (answer (pos 0) (negative 50) ∷ [])
-one-clean-answer =
-    CleanText.sheet (CleanOpening.four (clean-digit 1 (omega arith)) (clean-digit 0 (omega arith)) clean-hundred (clean-digit 1 (omega arith)) refl)
-    (CleanAnswers.next (clean-digit 0 (omega arith)) clean-minus-fifty CleanAnswers.none)
+one-clean-answer = clean-up-to-100 CleanShare.absent (CleanAnswers.next (clean-digit 0 (omega arith)) clean-minus-fifty CleanAnswers.none)
 
 -- four fields where p is 0, five where it is not
 clean-without-share : CleanText (bytes "1,0,100,1\r\n") upTo100 []
-clean-without-share =
-    CleanText.sheet (CleanOpening.four (clean-digit 1 (omega arith)) (clean-digit 0 (omega arith)) clean-hundred (clean-digit 1 (omega arith)) refl)
-    CleanAnswers.none
+clean-without-share = clean-up-to-100 CleanShare.absent CleanAnswers.none
 
 clean-with-share : CleanText (bytes "1,0,100,1,100\r\n") (upTo100With (pos 100)) []
 clean-with-share =
-    CleanText.sheet
-    (CleanOpening.five (clean-digit 1 (omega arith)) (clean-digit 0 (omega arith)) clean-hundred (clean-digit 1 (omega arith)) clean-hundred
-    (λ e. let n : _≡_ {A = ℕ} 100 0 = ap natAbs e in absurd (omega arith)))
-    CleanAnswers.none
+    let not-zero : pos 100 ≡ pos 0 → ⊥ = λ e. let n : _≡_ {A = ℕ} 100 0 = ap natAbs e in omega arith in
+    clean-up-to-100 (CleanShare.present clean-hundred not-zero) CleanAnswers.none
 
 -- a fifth field of 0 is taken, but not clean
-zero-share : SheetText (bytes "1,0,100,1,0\r\n") upTo100 []
-zero-share = with-share (Field.bare (one-digit 0 (omega arith)))
-
 zero-share-unclean : Clean (bytes "1,0,100,1,0\r\n") → ⊥
 zero-share-unclean c =
     let one = one-text (clean-spells c zero-share (omega arith)) clean-without-share in

@@ -46,17 +46,17 @@ pub data AnswersText : List ℕ → List Answer → Type 0 where
   next : {f g t : List ℕ} {a : Answer} {answers : List Answer} → Field f (a .point) → Field g (a .value) → AnswersText t answers
       → AnswersText (cr ∷ lf ∷ f ++ comma ∷ g ++ t) (a ∷ answers)
 
--- The first record is method,x0,x1,τ or method,x0,x1,τ,p; with four fields p is 0. There is no header.
-pub data OpeningText : List ℕ → Opening → Type 0 where
-  four : {f g h k : List ℕ} {o : Opening}
-      → Field f (o .method) → Field g (o .first) → Field h (o .second) → Field k (o .tolerance) → o .share ≡ pos 0
-      → OpeningText (f ++ comma ∷ g ++ comma ∷ h ++ comma ∷ k) o
-  five : {f g h k l : List ℕ} {o : Opening}
-      → Field f (o .method) → Field g (o .first) → Field h (o .second) → Field k (o .tolerance) → Field l (o .share)
-      → OpeningText (f ++ comma ∷ g ++ comma ∷ h ++ comma ∷ k ++ comma ∷ l) o
+-- A fifth field for p, after a comma; or none, and p is 0.
+pub data ShareText : List ℕ → ℤ → Type 0 where
+  absent : ShareText [] (pos 0)
+  present : {f : List ℕ} {p : ℤ} → Field f p → ShareText (comma ∷ f) p
 
+-- The first record is method,x0,x1,τ or method,x0,x1,τ,p. There is no header.
 pub data SheetText : List ℕ → Opening → List Answer → Type 0 where
-  sheet : {r t : List ℕ} {o : Opening} {answers : List Answer} → OpeningText r o → AnswersText t answers → SheetText (r ++ t) o answers
+  sheet : {f g h k s t : List ℕ} {o : Opening} {answers : List Answer}
+      → Field f (o .method) → Field g (o .first) → Field h (o .second) → Field k (o .tolerance) → ShareText s (o .share)
+      → AnswersText t answers
+      → SheetText (f ++ comma ∷ g ++ comma ∷ h ++ comma ∷ k ++ s ++ t) o answers
 
 -- ---- clean sheets: no quotes, no leading zeros, no −0, no fifth field where p is 0, CR LF after every record
 
@@ -76,21 +76,17 @@ pub data CleanAnswers : List ℕ → List Answer → Type 0 where
       → CleanNumeral f (a .point) → CleanNumeral g (a .value) → CleanAnswers t answers
       → CleanAnswers (f ++ comma ∷ g ++ cr ∷ lf ∷ t) (a ∷ answers)
 
--- The first record is method,x0,x1,τ where p is 0, and method,x0,x1,τ,p otherwise.
-pub data CleanOpening : List ℕ → Opening → Type 0 where
-  four : {f g h k : List ℕ} {o : Opening}
-      → CleanNumeral f (o .method) → CleanNumeral g (o .first) → CleanNumeral h (o .second) → CleanNumeral k (o .tolerance)
-      → o .share ≡ pos 0
-      → CleanOpening (f ++ comma ∷ g ++ comma ∷ h ++ comma ∷ k) o
-  five : {f g h k l : List ℕ} {o : Opening}
-      → CleanNumeral f (o .method) → CleanNumeral g (o .first) → CleanNumeral h (o .second) → CleanNumeral k (o .tolerance)
-      → CleanNumeral l (o .share) → (o .share ≡ pos 0 → ⊥)
-      → CleanOpening (f ++ comma ∷ g ++ comma ∷ h ++ comma ∷ k ++ comma ∷ l) o
+-- No fifth field where p is 0, and one where it is not.
+pub data CleanShare : List ℕ → ℤ → Type 0 where
+  absent : CleanShare [] (pos 0)
+  present : {f : List ℕ} {p : ℤ} → CleanNumeral f p → (p ≡ pos 0 → ⊥) → CleanShare (comma ∷ f) p
 
--- CR LF follow it, and then the others.
+-- The first record is method,x0,x1,τ or method,x0,x1,τ,p, and CR LF.
 pub data CleanText : List ℕ → Opening → List Answer → Type 0 where
-  sheet : {r t : List ℕ} {o : Opening} {answers : List Answer} → CleanOpening r o → CleanAnswers t answers
-      → CleanText (r ++ cr ∷ lf ∷ t) o answers
+  sheet : {f g h k s t : List ℕ} {o : Opening} {answers : List Answer}
+      → CleanNumeral f (o .method) → CleanNumeral g (o .first) → CleanNumeral h (o .second) → CleanNumeral k (o .tolerance)
+      → CleanShare s (o .share) → CleanAnswers t answers
+      → CleanText (f ++ comma ∷ g ++ comma ∷ h ++ comma ∷ k ++ s ++ cr ∷ lf ∷ t) o answers
 
 -- a text is clean if it is so for some opening and answers
 abbrev pub Clean : List ℕ → Type 0

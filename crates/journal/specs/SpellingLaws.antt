@@ -23,10 +23,10 @@ use Rattle.forms.specs.NumberLaws.{NumberText}
 use Rattle.forms.specs.TextLaws.{LineEnd, after, recordsWith}
 use Rattle.forms.specs.FieldLaws.{FieldText, joined, number-field, enclosed-field, field-text}
 use Rattle.forms.specs.Entries.{fieldOf, filled, entriesOf}
-use Rattle.forms.specs.ReadingLaws.{Spells, SpellsOpening, SpellsAnswers, entries-read}
-use Rattle.forms.specs.TakenLaws.{OpeningRow, Laid, entries-laid}
+use Rattle.forms.specs.ReadingLaws.{Spells, ShareNumbers, openingNumbers, SpellsOpening, SpellsAnswers, entries-read}
+use Rattle.forms.specs.TakenLaws.{Laid, entries-laid}
 use Rattle.journal.specs.Answers.{points, values}
-use Rattle.journal.specs.Spelling.{digit, Digits, Numeral, Field, AnswersText, OpeningText, SheetText}
+use Rattle.journal.specs.Spelling.{digit, Digits, Numeral, Field, AnswersText, ShareText, SheetText}
 use Rattle.journal.specs.Reading.{ReadAs, Reading}
 
 -- ---- a numeral is read as its number
@@ -130,15 +130,30 @@ answers-fielded (AnswersText.next {f} {g} p v r) =
       count = ap suc (k .count);
     }
 
--- the first record is a row of fields
-opening-fielded : {r : List ℕ} {o : Opening} → OpeningText r o → OpeningRow r o
-opening-fielded (OpeningText.four {f} {g} {h} {k} m x y w e) =
-    let row = Spells.more (field-read m) (Spells.more (field-read x) (Spells.more (field-read y) (Spells.more (field-read w) Spells.none))) in
-    record { fields = f ∷ g ∷ h ∷ k ∷ []; spelled = SpellsOpening.four row e; whole = simp append-assoc }
-opening-fielded (OpeningText.five {f} {g} {h} {k} {l} m x y w p) =
-    let tail = Spells.more (field-read w) (Spells.more (field-read p) Spells.none) in
-    let row = Spells.more (field-read m) (Spells.more (field-read x) (Spells.more (field-read y) tail)) in
-    record { fields = f ∷ g ∷ h ∷ k ∷ l ∷ []; spelled = SpellsOpening.five row; whole = simp append-assoc }
+-- what stands after τ is one field or none
+record ShareFielded (s : List ℕ) (p : ℤ) : Type 0 where
+  fields : List (List ℕ)
+  numbers : List ℤ
+  share : ShareNumbers numbers p
+  spelled : Spells fields numbers
+  text : (k : List ℕ) → joined (k ∷ fields) ≡ k ++ s
+
+share-fielded : {s : List ℕ} {p : ℤ} → ShareText s p → ShareFielded s p
+share-fielded ShareText.absent =
+    record { fields = []; numbers = []; share = ShareNumbers.absent; spelled = Spells.none; text = λ k. sym (append-nil k) }
+share-fielded (ShareText.present {f} {p} h) =
+    record {
+      fields = f ∷ [];
+      numbers = p ∷ [];
+      share = ShareNumbers.present;
+      spelled = Spells.more (field-read h) Spells.none;
+      text = λ k. refl;
+    }
+
+-- the first record is a row of four fields and the share
+first-text : (f g h k s : List ℕ) {tail : List ℕ} → tail ≡ k ++ s
+    → f ++ comma ∷ (g ++ comma ∷ (h ++ comma ∷ tail)) ≡ f ++ comma ∷ g ++ comma ∷ h ++ comma ∷ k ++ s
+first-text f g h k s e = rw e (simp append-assoc)
 
 -- the whole text is the first row and what stands after it
 whole-text : (end : List ℕ) (head : List (List ℕ)) (rows : List (List (List ℕ)))
@@ -148,12 +163,14 @@ whole-text end head rows = append-assoc (joined head) (after end (map joined row
 
 -- a sheet in any spelling is read as its numbers
 pub spelled-read : {t : List ℕ} {o : Opening} {answers : List Answer} → SheetText t o answers → length answers ≤ slots → ReadAs t o answers
-spelled-read (SheetText.sheet {r = r} {o = o} {answers = answers} head t) l =
+spelled-read (SheetText.sheet {f} {g} {h} {k} {s} {o = o} {answers = answers} m x y w p t) l =
     let a = answers-fielded t in
-    let h = opening-fielded head in
-    let e = entries-read o (a .line-end) (h .spelled) (a .spelled) (omega (arith, a .count)) in
-    subst₂ (λ (u v : List ℕ). ReadAs (u ++ v) o answers) (h .whole) (a .text)
-    (subst (λ (u : List ℕ). ReadAs u o answers) (whole-text (a .end) (h .fields) (a .rows)) e)
+    let d = share-fielded p in
+    let row = Spells.more (field-read m) (Spells.more (field-read x) (Spells.more (field-read y) (Spells.more (field-read w) (d .spelled)))) in
+    let head : SpellsOpening (f ∷ g ∷ h ∷ k ∷ d .fields) o = record { rest = d .numbers; share = d .share; numbers = row } in
+    let e = entries-read o (a .line-end) head (a .spelled) (omega (arith, a .count)) in
+    subst₂ (λ (u v : List ℕ). ReadAs (u ++ v) o answers) (first-text f g h k s (d .text k)) (a .text)
+    (subst (λ (u : List ℕ). ReadAs u o answers) (whole-text (a .end) (f ∷ g ∷ h ∷ k ∷ d .fields) (a .rows)) e)
 
 -- ---- and what is read is spelled
 
@@ -184,22 +201,29 @@ pub record Spelled (text : List ℕ) : Type 0 where
   pub spells : SheetText text opening answers
   pub few : length answers ≤ slots
 
-row-opening : {head : List (List ℕ)} {o : Opening} → SpellsOpening head o → OpeningText (joined head) o
-row-opening {o = o} (SpellsOpening.four (Spells.more m (Spells.more x (Spells.more y (Spells.more w Spells.none)))) e) =
-    let text = OpeningText.four (read-field m) (read-field x) (read-field y) (read-field w) e in
-    subst (λ (r : List ℕ). OpeningText r o) (simp append-assoc) text
-row-opening {o = o} (SpellsOpening.five (Spells.more m (Spells.more x (Spells.more y (Spells.more w (Spells.more p Spells.none)))))) =
-    let text = OpeningText.five (read-field m) (read-field x) (read-field y) (read-field w) (read-field p) in
-    subst (λ (r : List ℕ). OpeningText r o) (simp append-assoc) text
+fields-share : {fs : List (List ℕ)} {zs : List ℤ} {p : ℤ} → Spells fs zs → ShareNumbers zs p → (k : List ℕ)
+    → (s : List ℕ) × ShareText s p × (joined (k ∷ fs) ≡ k ++ s)
+fields-share Spells.none ShareNumbers.absent k = ([], ShareText.absent, sym (append-nil k))
+fields-share (Spells.more {f} e Spells.none) ShareNumbers.present k = (comma ∷ f, ShareText.present (read-field e), refl)
+
+head-spelled : {head : List (List ℕ)} {zs : List ℤ} {t : List ℕ} (o : Opening) {answers : List Answer}
+    → ShareNumbers zs (o .share) → Spells head (openingNumbers o zs) → AnswersText t answers → SheetText (joined head ++ t) o answers
+head-spelled {t = t} o {answers} h (Spells.more {f} m (Spells.more {f = g} x (Spells.more {f = e} y (Spells.more {f = k} w r)))) a =
+    let p = fields-share r h k in
+    let text = SheetText.sheet {o = o} (read-field m) (read-field x) (read-field y) (read-field w) (p .1) a in
+    subst (λ (u : List ℕ). SheetText (u ++ t) o answers) (sym (first-text f g e k (p .0) (p .2))) text
 
 laid-spelled : {text : List ℕ} → Laid text → Spelled text
 laid-spelled l =
     let k = rows-answered (l .line-end) (l .spelled-rows) in
     let whole = sym (whole-text (l .end) (l .head) (l .rows)) ∙ l .whole in
+    let h = l .spelled-head in
     record {
       opening = l .opening;
       answers = k .answers;
-      spells = subst (λ (t : List ℕ). SheetText t (l .opening) (k .answers)) whole (SheetText.sheet (row-opening (l .spelled-head)) (k .text));
+      spells =
+          subst (λ (t : List ℕ). SheetText t (l .opening) (k .answers)) whole
+          (head-spelled (l .opening) (h .share) (h .numbers) (k .text));
       few = omega (arith, l .few, k .count);
     }
 
@@ -289,6 +313,8 @@ has-text o answers h k =
     let x = numeral-of (o .first) (h .first) in
     let y = numeral-of (o .second) (h .second) in
     let w = numeral-of (o .tolerance) (h .tolerance) in
-    let p = numeral-of (o .share) (h .share) in
-    let head = OpeningText.five (Field.bare (m .1)) (Field.bare (x .1)) (Field.bare (y .1)) (Field.bare (w .1)) (Field.bare (p .1)) in
-    (_, SheetText.sheet head (answers-text answers k .1))
+    let p = numeral-of (o .share) (h .share) in (
+      _,
+      SheetText.sheet (Field.bare (m .1)) (Field.bare (x .1)) (Field.bare (y .1)) (Field.bare (w .1)) (ShareText.present (Field.bare (p .1)))
+          (answers-text answers k .1),
+    )

@@ -131,11 +131,11 @@ backs-hold = refl
 
 -- ---- the quote
 
-abbrev sharing : (method tolerance share : ℤ) → Opening
-sharing method tolerance share = record { method = method; first = pos 60000; second = pos 0; tolerance = tolerance; share = share }
+abbrev withShare : (method tolerance share : ℤ) → Opening
+withShare method tolerance share = record { method = method; first = pos 60000; second = pos 0; tolerance = tolerance; share = share }
 
 abbrev opening : (method tolerance : ℤ) → Opening
-opening method tolerance = sharing method tolerance (pos 0)
+opening method tolerance = withShare method tolerance (pos 0)
 
 whole-range-by-M : quoteOf (opening (pos 0) (pos 1)) ≡ Quote.Quoted 15 62
 unfolding quoteOf openingRefusal methodOf turnsOf digits halvings
@@ -154,11 +154,11 @@ unfolding quoteOf openingRefusal
 quote-refused = refl
 
 -- from τ alone, whatever the share; one out of range is refused
-quote-with-share : quoteOf (sharing (pos 0) (pos 1) (pos 100)) ≡ Quote.Quoted 15 62
+quote-with-share : quoteOf (withShare (pos 0) (pos 1) (pos 100)) ≡ Quote.Quoted 15 62
 unfolding quoteOf openingRefusal methodOf turnsOf digits halvings
 quote-with-share = refl
 
-quote-share-refused : quoteOf (sharing (pos 1) (pos 1) (pos 101)) ≡ Quote.Refused 17 0
+quote-share-refused : quoteOf (withShare (pos 1) (pos 1) (pos 101)) ≡ Quote.Refused 17 0
 unfolding quoteOf openingRefusal
 quote-share-refused = refl
 

@@ -58,7 +58,7 @@ firstOf o = natAbs (o .first)
 abbrev pub secondOf : Opening → ℕ
 secondOf o = natAbs (o .second)
 
--- the tolerance at b: τ plus the whole part of p × b / 1,000
+-- the tolerance at b: τ plus the whole part of p × b / 1,000, where p is the share
 unfoldable pub toleranceAt : Opening → ℕ → ℕ
 toleranceAt o b = natAbs (o .tolerance) + natAbs (o .share) * b / 1000
 

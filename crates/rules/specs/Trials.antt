@@ -20,8 +20,8 @@ pub record Trial : Type 0 where
   pub report : Report
 
 -- method, x0, x1, τ and p, the values and the report
-abbrev pub sharing : (method first second tolerance share : ℤ) → List ℤ → Report → Trial
-sharing method first second tolerance share vs r =
+abbrev pub trialWithShare : (method first second tolerance share : ℤ) → List ℤ → Report → Trial
+trialWithShare method first second tolerance share vs r =
     record {
       opening = record { method = method; first = first; second = second; tolerance = tolerance; share = share };
       values = vs;
@@ -30,7 +30,7 @@ sharing method first second tolerance share vs r =
 
 -- with p = 0
 abbrev pub trial : (method first second tolerance : ℤ) → List ℤ → Report → Trial
-trial method first second tolerance vs r = sharing method first second tolerance (pos 0) vs r
+trial method first second tolerance vs r = trialWithShare method first second tolerance (pos 0) vs r
 
 abbrev pub minus : ℕ → ℤ
 minus n = negℤ (pos n)
@@ -143,33 +143,33 @@ abbrev pub shares : List Trial
 shares =
     -- at b = 21,000 the tolerance is 25 + 42 = 67. L = 134: stopped, with b the lower end, and the upper. At c and in the middle of
     -- the second it is 66
-    sharing (pos 1) (pos 21000) (pos 21134) (pos 25) (pos 2) (pos 1 ∷ minus 2 ∷ []) (Stop 21000 21134 21000 2)
-    ∷ sharing (pos 1) (pos 20866) (pos 21000) (pos 25) (pos 2) (minus 2 ∷ pos 1 ∷ []) (Stop 20866 21000 21000 2)
+    trialWithShare (pos 1) (pos 21000) (pos 21134) (pos 25) (pos 2) (pos 1 ∷ minus 2 ∷ []) (Stop 21000 21134 21000 2)
+    ∷ trialWithShare (pos 1) (pos 20866) (pos 21000) (pos 25) (pos 2) (minus 2 ∷ pos 1 ∷ []) (Stop 20866 21000 21000 2)
     -- L = 135: not yet. u = 45, so D is the tolerance, 67
-    ∷ sharing (pos 1) (pos 21000) (pos 21135) (pos 25) (pos 2) (pos 1 ∷ minus 2 ∷ []) (Next 21067 2)
-    ∷ sharing (pos 1) (pos 20865) (pos 21000) (pos 25) (pos 2) (minus 2 ∷ pos 1 ∷ []) (Next 20933 2)
+    ∷ trialWithShare (pos 1) (pos 21000) (pos 21135) (pos 25) (pos 2) (pos 1 ∷ minus 2 ∷ []) (Next 21067 2)
+    ∷ trialWithShare (pos 1) (pos 20865) (pos 21000) (pos 25) (pos 2) (minus 2 ∷ pos 1 ∷ []) (Next 20933 2)
     -- the whole part of p × b / 1,000 with p = 1: 0 at 999, 1 at 1,000
-    ∷ sharing (pos 1) (pos 999) (pos 1002) (pos 1) (pos 1) (pos 1 ∷ minus 2 ∷ []) (Next 1000 2)
-    ∷ sharing (pos 1) (pos 1000) (pos 1004) (pos 1) (pos 1) (pos 1 ∷ minus 2 ∷ []) (Stop 1000 1004 1000 2)
-    ∷ sharing (pos 1) (pos 1000) (pos 1005) (pos 1) (pos 1) (pos 1 ∷ minus 2 ∷ []) (Next 1002 2)
+    ∷ trialWithShare (pos 1) (pos 999) (pos 1002) (pos 1) (pos 1) (pos 1 ∷ minus 2 ∷ []) (Next 1000 2)
+    ∷ trialWithShare (pos 1) (pos 1000) (pos 1004) (pos 1) (pos 1) (pos 1 ∷ minus 2 ∷ []) (Stop 1000 1004 1000 2)
+    ∷ trialWithShare (pos 1) (pos 1000) (pos 1005) (pos 1) (pos 1) (pos 1 ∷ minus 2 ∷ []) (Next 1002 2)
     -- nothing is added at b = 0; the largest, at 60,000, is 5,000 + 6,000
-    ∷ sharing (pos 1) (pos 0) (pos 3) (pos 1) (pos 100) (pos 1 ∷ minus 2 ∷ []) (Next 1 2)
-    ∷ sharing (pos 1) (pos 60000) (pos 38000) (pos 5000) (pos 100) (pos 1 ∷ minus 2 ∷ []) (Stop 38000 60000 60000 2)
-    ∷ sharing (pos 1) (pos 60000) (pos 37999) (pos 5000) (pos 100) (pos 1 ∷ minus 2 ∷ []) (Next 49000 2)
+    ∷ trialWithShare (pos 1) (pos 0) (pos 3) (pos 1) (pos 100) (pos 1 ∷ minus 2 ∷ []) (Next 1 2)
+    ∷ trialWithShare (pos 1) (pos 60000) (pos 38000) (pos 5000) (pos 100) (pos 1 ∷ minus 2 ∷ []) (Stop 38000 60000 60000 2)
+    ∷ trialWithShare (pos 1) (pos 60000) (pos 37999) (pos 5000) (pos 100) (pos 1 ∷ minus 2 ∷ []) (Next 49000 2)
     -- b on target: D is 10 + 20 from 2,000, and 10 + 40 from 4,000; by R too
-    ∷ sharing (pos 1) (pos 2000) (pos 4000) (pos 10) (pos 10) (pos 0 ∷ pos 5 ∷ []) (Next 2030 2)
-    ∷ sharing (pos 2) (pos 4000) (pos 2000) (pos 10) (pos 10) (pos 0 ∷ pos 5 ∷ []) (Next 3950 2)
+    ∷ trialWithShare (pos 1) (pos 2000) (pos 4000) (pos 10) (pos 10) (pos 0 ∷ pos 5 ∷ []) (Next 2030 2)
+    ∷ trialWithShare (pos 2) (pos 4000) (pos 2000) (pos 10) (pos 10) (pos 0 ∷ pos 5 ∷ []) (Next 3950 2)
     -- p × b first, then the whole part: at 21,789 it is 25 + 43 = 68. L = 136: stopped
-    ∷ sharing (pos 1) (pos 21653) (pos 21789) (pos 25) (pos 2) (minus 5 ∷ pos 1 ∷ []) (Stop 21653 21789 21789 2)
+    ∷ trialWithShare (pos 1) (pos 21653) (pos 21789) (pos 25) (pos 2) (minus 5 ∷ pos 1 ∷ []) (Stop 21653 21789 21789 2)
     -- a rational step, u = 62 and a part, from b = 21,727: D is 68; then the stop
-    ∷ sharing (pos 2) (pos 18000) (pos 26000) (pos 25) (pos 2) (pos 690 ∷ minus 169 ∷ minus 134 ∷ pos 41 ∷ pos 5 ∷ []) (Next 21795 5)
-    ∷ sharing (pos 2) (pos 18000) (pos 26000) (pos 25) (pos 2) (pos 690 ∷ minus 169 ∷ minus 134 ∷ pos 41 ∷ pos 5 ∷ minus 1 ∷ [])
+    ∷ trialWithShare (pos 2) (pos 18000) (pos 26000) (pos 25) (pos 2) (pos 690 ∷ minus 169 ∷ minus 134 ∷ pos 41 ∷ pos 5 ∷ []) (Next 21795 5)
+    ∷ trialWithShare (pos 2) (pos 18000) (pos 26000) (pos 25) (pos 2) (pos 690 ∷ minus 169 ∷ minus 134 ∷ pos 41 ∷ pos 5 ∷ minus 1 ∷ [])
     (Stop 21727 21795 21795 6)
     -- 17 comes after 4, and the limits of p are taken
-    ∷ sharing (pos 1) (pos 0) (pos 100) (pos 0) (pos 101) [] (Refused 4 0)
-    ∷ sharing (pos 1) (pos 0) (pos 100) (pos 1) (pos 101) [] (Refused 17 0)
-    ∷ sharing (pos 1) (pos 0) (pos 100) (pos 1) (minus 1) [] (Refused 17 0)
-    ∷ sharing (pos 1) (pos 0) (pos 100) (pos 1) (pos 100) [] (Next 0 0)
+    ∷ trialWithShare (pos 1) (pos 0) (pos 100) (pos 0) (pos 101) [] (Refused 4 0)
+    ∷ trialWithShare (pos 1) (pos 0) (pos 100) (pos 1) (pos 101) [] (Refused 17 0)
+    ∷ trialWithShare (pos 1) (pos 0) (pos 100) (pos 1) (minus 1) [] (Refused 17 0)
+    ∷ trialWithShare (pos 1) (pos 0) (pos 100) (pos 1) (pos 100) [] (Next 0 0)
     ∷ []
 
 pub shares-hold : AllHold shares

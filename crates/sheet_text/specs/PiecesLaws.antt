@@ -18,7 +18,7 @@ use Rattle.rules.specs.declared.Opening.{Opening}
 use Rattle.rules.specs.declared.Answer.{Answer}
 use Rattle.forms.specs.Bytes.{cr, lf, comma, minus}
 use Rattle.lines.specs.Decimal.{decimalOf}
-use Rattle.clean_sheets.specs.Clean.{numberText, answersText, shareText, openingFields, sheetText}
+use Rattle.clean_sheets.specs.Clean.{numberText, answersText, shareText, sheetText}
 use Rattle.sheet_text.specs.Pieces.{fieldText, lastText, tailText, openingText, answerText, spliced, Puts}
 
 -- ---- a number, by its sign
@@ -40,9 +40,9 @@ module _ (t p : ℤ) where
   unfolding tailText
   tail-alone e = simp e
 
-  pub tail-shared : eqZ p (pos 0) ≡ false → tailText t p ≡ fieldText t comma ++ lastText p
+  pub tail-with-share : eqZ p (pos 0) ≡ false → tailText t p ≡ fieldText t comma ++ lastText p
   unfolding tailText
-  tail-shared e = simp e
+  tail-with-share e = simp e
 
 -- ---- the sheet is its records, one after the other
 
@@ -61,7 +61,7 @@ tail-text t p rest = go (eqZ p (pos 0))
     go false = simp append-assoc
 
 pub sheet-records : (o : Opening) (answers : List Answer) → sheetText o answers ≡ openingText o ++ answersText answers
-unfolding sheetText openingFields openingText
+unfolding sheetText openingText
 sheet-records o answers =
     let m = numberText (o .method) in
     let x = numberText (o .first) in

@@ -11,7 +11,7 @@ use Rattle.integers.specs.Signs.{eqZ}
 use Rattle.integers.specs.Bounds.{read}
 use Rattle.forms.specs.Bytes.{comma}
 use Rattle.sheet_text.specs.Pieces.{fieldText, lastText, tailText, Puts}
-use Rattle.sheet_text.specs.PiecesLaws.{tail-alone, tail-shared, same-size, puts-more, in-words}
+use Rattle.sheet_text.specs.PiecesLaws.{tail-alone, tail-with-share, same-size, puts-more, in-words}
 use Rattle.sheet_text.proofs.put_tail.Statement.{statement}
 use Rattle.sheet_text.proofs.put_tail.Tie as tie
 
@@ -45,19 +45,19 @@ returns c =
 
 -- ---- it is not
 
-shared : (c : tie.Else1)
+with-share : (c : tie.Else1)
     → tailText (start-of (c .before) .args .tolerance) (start-of (c .before) .args .share)
     ≡ fieldText (start-of (c .before) .args .tolerance) comma ++ lastText (start-of (c .before) .args .share)
-shared c =
+with-share c =
     let s = start-of (c .before) in
-    tail-shared (s .args .tolerance) (s .args .share) (test (c .before) ∙ c .if1 .left)
+    tail-with-share (s .args .tolerance) (s .args .share) (test (c .before) ∙ c .if1 .left)
 
-shared-length : (c : tie.Else1)
+with-share-length : (c : tie.Else1)
     → length (tailText (start-of (c .before) .args .tolerance) (start-of (c .before) .args .share))
     ≡ length (fieldText (start-of (c .before) .args .tolerance) comma) + length (lastText (start-of (c .before) .args .share))
-shared-length c =
+with-share-length c =
     let s = start-of (c .before) in
-    ap length (shared c) ∙ length-append (fieldText (s .args .tolerance) comma) (lastText (s .args .share))
+    ap length (with-share c) ∙ length-append (fieldText (s .args .tolerance) comma) (lastText (s .args .share))
 
 abbrev start-at : tie.After-put-field → tie.Start
 start-at c = start-of (c .before .before .before)
@@ -70,13 +70,13 @@ first c = rw (read (start-at c .fits .tolerance)) at (c .put-field .ensures)
 put-field-requires : tie.Need-put-field-requires
 put-field-requires c κs =
     let s = c .before .before .before .before in
-    rw (read (s .fits .tolerance)) (omega (arith, s .pre, shared-length (c .before)))
+    rw (read (s .fits .tolerance)) (omega (arith, s .pre, with-share-length (c .before)))
 
 put-last-requires-2 : tie.Need-put-last-requires-2
 put-last-requires-2 c κs =
     let f = c .before .before .before in
     let s = start-at f in
-    rw (read (s .fits .share)) (omega (arith, s .pre, shared-length (f .before .before), first f .ends, same-size (first f)))
+    rw (read (s .fits .share)) (omega (arith, s .pre, with-share-length (f .before .before), first f .ends, same-size (first f)))
 
 same-length-2 : tie.Need-same-length-2
 same-length-2 c = search needs
@@ -86,7 +86,7 @@ returns-2 c =
     let l = c .before .before in
     let f = l .before .before .before .before in
     let s = start-at f in
-    in-words (puts-more (first f) (rw (read (s .fits .share)) at (l .put-last2 .ensures))) (sym (shared (f .before .before))) refl refl
+    in-words (puts-more (first f) (rw (read (s .fits .share)) at (l .put-last2 .ensures))) (sym (with-share (f .before .before))) refl refl
 
 pub put-tail-spec : {M : Type 1} → statement M
 put-tail-spec =

@@ -20,14 +20,14 @@ returns c =
     let m = c .before .before .before in
     c .reach .ensures ∙ rw (c .before .step-at .ensures, m .method-of .ensures, m .before .tolerance-at .ensures)
 
-few : (c : tie.After-tolerance-at) → c .tolerance-at .result ≤ widest
-few c =
+tolerance-fits : (c : tie.After-tolerance-at) → c .tolerance-at .result ≤ widest
+tolerance-fits c =
     let s = c .before in
     let h = tolerance-most (s .args .o) (s .args .k .better .point) (s .pre .opened) (s .pre .sound .limits .better .point) in
     rw (c .tolerance-at .ensures) (omega arith)
 
 cast-tolerance : tie.Need-cast-tolerance
-cast-tolerance c = record { fits = omega (arith, few c) }
+cast-tolerance c = record { fits = omega (arith, tolerance-fits c) }
 
 method-of-requires : tie.Need-method-of-requires
 method-of-requires c κs = search needs
@@ -38,7 +38,7 @@ step-at-requires c κs = search needs
 reach-requires : tie.Need-reach-requires
 reach-requires c κs =
     let t = c .before .before .before in
-    (omega (arith, few t), surveyed (t .before .pre .sound))
+    (omega (arith, tolerance-fits t), surveyed (t .before .pre .sound))
 
 pub offset-spec : {M : Type 1} → statement M
 offset-spec =

@@ -1,4 +1,4 @@
--- `records::read_shared` meets its contract: it goes the way of the definition, a pair and then the last field.
+-- `records::read_with_share` meets its contract: it goes the way of the definition, a pair and then the last field.
 -- Assumes nothing.
 use mathlib.Core.Path.{_≡_, sym, ap, _∙_}
 use mathlib.Core.Bool.{false}
@@ -6,10 +6,10 @@ use mir.Syntax.{w32}
 use mir.Val.{toZ, ofZ}
 use mir.Facts.{toZ-ofZ}
 use Rattle.scanning.specs.declared.PairScan.{PairScan}
-use Rattle.scanning.specs.Scan.{pairAt, openedWith, openedShared}
+use Rattle.scanning.specs.Scan.{pairAt, openedWith, openedWithShare}
 use borrow.Author.Needs.{needs}
-use Rattle.records.proofs.read_shared.Statement.{statement}
-use Rattle.records.proofs.read_shared.Tie as tie
+use Rattle.records.proofs.read_with_share.Statement.{statement}
+use Rattle.records.proofs.read_with_share.Tie as tie
 
 scan-pair-requires : tie.Need-scan-pair-requires
 scan-pair-requires c κs = search needs
@@ -24,7 +24,7 @@ returns : tie.Need-returns
 returns c =
     let p = c .before .before in
     let a = p .before .before .args in
-    sym (ap (openedShared (a .text .now) (a .method) (a .x0)) (sym (p .scan-pair .ensures) ∙ c .enum-told .given .1))
+    sym (ap (openedWithShare (a .text .now) (a .method) (a .x0)) (sym (p .scan-pair .ensures) ∙ c .enum-told .given .1))
 
 -- x1 and τ were found
 abbrev start-of : tie.After-x1 → tie.Start
@@ -50,7 +50,7 @@ returns-2 c =
     let x = l .before .before in
     let a = start-of x .args in
     sym
-    (ap (openedShared (a .text .now) (a .method) (a .x0)) (pair-found x)
+    (ap (openedWithShare (a .text .now) (a .method) (a .x0)) (pair-found x)
     ∙ ap (openedWith (a .method) (a .x0) (x .x1 .given .0 .0) (x .x1 .given .0 .1 .0)) (sym (l .scan-last .ensures) ∙ c .enum-told2 .given .1))
 
 returns-3 : tie.Need-returns-3
@@ -65,11 +65,11 @@ returns-3 c =
     let w : toZ w32 (ofZ w32 (p .share .given .0 .0)) ≡ p .share .given .0 .0 = search needs in
     simp (toZ-ofZ (s .fits .method), toZ-ofZ (s .fits .x0), y, z, w)
     (sym
-    (ap (openedShared (a .text .now) (a .method) (a .x0)) (pair-found x)
+    (ap (openedWithShare (a .text .now) (a .method) (a .x0)) (pair-found x)
     ∙ ap (openedWith (a .method) (a .x0) (x .x1 .given .0 .0) (x .x1 .given .0 .1 .0)) (sym (l .scan-last .ensures) ∙ p .share .given .1)))
 
-pub read-shared-spec : {M : Type 1} → statement M
-read-shared-spec =
+pub read-with-share-spec : {M : Type 1} → statement M
+read-with-share-spec =
     tie.close
     (tie.spec
     scan-pair-requires
