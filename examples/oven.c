@@ -12,7 +12,7 @@
 #include "busdekker.h"
 #include "refusals.h"
 
-/* A dryer: its opening, and the setting at which its leaf comes out on target. */
+/* A dryer: its opening, and the setting at which its leaf comes out on target. Dryer 4 is a roaster: its opening has a share. */
 struct dryer {
     struct busdekker_opening opening;
     int32_t on_target;
@@ -20,7 +20,7 @@ struct dryer {
 
 static const struct dryer dryers[BUSDEKKER_DRYERS] = {
     {{BUSDEKKER_M, 6000, 12000, 100, 0}, 8730}, {{BUSDEKKER_R, 6000, 12000, 100, 0}, 9415},  {{BUSDEKKER_HOUSE, 8000, 9500, 50, 0}, 8802},
-    {{BUSDEKKER_M, 12000, 7000, 100, 0}, 7100}, {{BUSDEKKER_R, 5000, 15000, 200, 0}, 11960}, {{BUSDEKKER_M, 9000, 9150, 100, 0}, 9080},
+    {{BUSDEKKER_M, 12000, 7000, 100, 0}, 7100}, {{BUSDEKKER_R, 18000, 26000, 25, 2}, 21760}, {{BUSDEKKER_M, 9000, 9150, 100, 0}, 9080},
 };
 
 /* Moisture minus target of a dryer's leaf at a setting: the hotter, the drier. */

@@ -6,8 +6,8 @@
  *
  * Numbers. A point is a setting in hundredths of a degree Celsius, 0 to 60,000. A value is moisture minus target in hundredths of a
  * percentage point, -10,000 to 10,000; 0 is on target. The tolerance is 1 to 5,000, in units of a point. The share is 0 to 100, in parts per
- * thousand: the tolerance at a point is the tolerance plus the whole part of share times point / 1,000. Every number may be given: what is out
- * of range is refused.
+ * thousand: the tolerance at a point is the tolerance plus the whole part of share times point / 1,000. A search stops
+ * when its two ends are no further apart than twice the tolerance at the better one. Every number may be given: what is out of range is refused.
  *
  * Promises, for every call and every input. The call ends. It keeps no pointer, allocates nothing, blocks on nothing and has no state of its
  * own, so calls on different searches or dispatchers may run at once, in threads or in interrupts. It reads and writes nothing but what it is
