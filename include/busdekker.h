@@ -11,9 +11,9 @@
  *
  * Promises, for every call and every input. The call ends. It keeps no pointer, allocates nothing, blocks on nothing and has no state of its
  * own, so calls on different searches or dispatchers may run at once, in threads or in interrupts. It reads and writes nothing but what it is
- * lent, whatever that holds. A refusal leaves what was lent as it was: numbers may be stored again, but they are the same. A call on a
- * dispatcher needs at most BUSDEKKER_DISPATCHER_STACK bytes of stack, and every other at most BUSDEKKER_STACK, with what its caller puts there
- * to pass and return structs.
+ * lent, whatever that holds. A refusal leaves what was lent as it was: numbers may be stored again, but they are the same. A
+ * busdekker_dispatch_ call needs at most BUSDEKKER_DISPATCHER_STACK bytes of stack, and every other at most BUSDEKKER_STACK, with what its
+ * caller puts there to pass and return structs.
  *
  * Asked of the host. Pointers are not null, point to whole objects, and are aligned as the compiler aligns them. While a call that takes a
  * search or a dispatcher by a pointer that is not const runs, nobody else reads or writes it: a search has one writer, and so has a dispatcher
@@ -68,8 +68,8 @@ extern "C" {
 /* From here on a dryer's count of served answers remains as it is. Each of the six has this ceiling by itself. */
 #define BUSDEKKER_SERVED_CEILING 1000000000
 
-/* The bytes of stack that a call needs: one on a dispatcher, which copies it, and any other. Measured by tests/stack.c, which runs each call on
- * a painted stack and looks how far it was written; the gate holds every call to its figure. */
+/* The bytes of stack that a call needs: a busdekker_dispatch_ call, which copies a dispatcher, and any other. Measured by tests/stack.c, which
+ * runs each call on a painted stack and looks how far it was written; the gate holds every call to its figure. */
 #define BUSDEKKER_DISPATCHER_STACK 10240
 #define BUSDEKKER_STACK 2048
 
@@ -167,8 +167,9 @@ struct busdekker_dispatcher {
  * A report. A number that its kind has not is 0.
  *
  *   BUSDEKKER_NEXT     point is the setting called for, and taken the number of answers taken.
- *   BUSDEKKER_STOP     lower and upper are the ends of the last bracket, better the one of them whose value is nearer to target, and taken the
- *                      number of answers taken. The bracket is no wider than twice the tolerance at the better end.
+ *   BUSDEKKER_STOP     lower and upper are the ends of the last bracket, better the one that M and R call b, whose value is no farther from
+ *                      target than the other's, and taken the number of answers taken. The bracket is no wider than twice the tolerance at
+ *                      the better end.
  *   BUSDEKKER_REFUSED  number says why, and place where:
  *                        1 to 4, 9, 14 to 17
  *                                     place is 0
@@ -240,8 +241,8 @@ struct busdekker_report busdekker_open(struct busdekker_search *search, struct b
 /*
  * Offers an answer to *search: the point of a trial and its value. An accepted one enters the next slot and adds 1 to the count; the report is
  * that of the search after it.
- * A refusal (1 to 9, 17) leaves *search as it was, and the same point stays called for: after 6, 7 or 8 the trial may be repeated or its value
- * corrected, and offered again. Place is the count where the answer itself is refused, and the slot where a value held is.
+ * A refusal (1 to 9, 17) leaves *search as it was. After 6, 7 or 8 at place count the same point stays called for, and the trial may be repeated
+ * or its value corrected, and offered again. Place is the count where the answer itself is refused, and the slot where a value held is.
  */
 struct busdekker_report busdekker_enter(struct busdekker_search *search, int32_t point, int32_t value);
 
@@ -250,7 +251,7 @@ struct busdekker_report busdekker_enter(struct busdekker_search *search, int32_t
 struct busdekker_answered busdekker_entered(struct busdekker_search search, int32_t point, int32_t value);
 
 /* Asks for the report of *search as it stands, which is read and not written. Slots at or past the count never alter it. A refusal (1 to 5, 7
- * to 9, 17) says that *search was not made by this interface. */
+ * to 9, 17) says that *search is none that busdekker_open made and answers were entered into. */
 struct busdekker_report busdekker_ask(const struct busdekker_search *search);
 
 /* The report on an opening and the values answered so far, in the order called for. `values` points to `length` numbers, any number of them,
@@ -259,8 +260,9 @@ struct busdekker_report busdekker_values(struct busdekker_opening opening, const
 
 /* The outcome of a trial sheet: the report of the search that it is, or a refusal (1 to 8, 10 to 12, 17), whose place is a record. `text` points
  * to `length` bytes, any number of them, which are read and not written; it is not null even where `length` is 0. A record is numbers with
- * commas between them and CR LF at its end, which the last record may lack; each number may stand between double quotes. The first record has
- * the opening's five numbers, or four, and the share is then 0; every other has a point and its value. */
+ * commas between them and CR LF at its end, which the last record may lack. A number is an optional minus and one to five digits, and may stand
+ * between double quotes. The first record has the opening's five numbers, or four, and the share is then 0; every other has a point and its
+ * value. */
 struct busdekker_report busdekker_sheet(const uint8_t *text, size_t length);
 
 /*
