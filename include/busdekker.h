@@ -251,7 +251,7 @@ struct busdekker_report busdekker_enter(struct busdekker_search *search, int32_t
 struct busdekker_answered busdekker_entered(struct busdekker_search search, int32_t point, int32_t value);
 
 /* Asks for the report of *search as it stands, which is read and not written. Slots at or past the count never alter it. A refusal (1 to 5, 7
- * to 9, 17) says that *search is none that busdekker_open made and answers were entered into. */
+ * to 9, 17) says that *search was not made by busdekker_open and the answers entered since. */
 struct busdekker_report busdekker_ask(const struct busdekker_search *search);
 
 /* The report on an opening and the values answered so far, in the order called for. `values` points to `length` numbers, any number of them,
