@@ -8,29 +8,39 @@ use lib.Dec.{eqb}
 use lib.IntN.{ℤ, pos}
 use lib.ListN.{length, getD}
 use lib.Seq.{sets}
+use Rattle.rules.specs.declared.Opening.{Opening}
+use Rattle.rules.specs.declared.Answer.{Answer}
 use Rattle.rules.specs.Rows.{rowOf, rowNumbers, numbersEach}
 use Rattle.dispatching.specs.declared.Dispatcher.{Dispatcher}
 use Rattle.dispatching.specs.Calls.{Call, opening, answer, callOf}
 
 -- ---- the calls
 
--- kind 0 is an opening, with its method, ends, tolerance and share; any other is an answer, with its point and its value
-abbrev pub callWith : ℕ → ℕ → ℤ → ℤ → ℤ → ℤ → ℤ → Call
-callWith kind dryer a b c e f =
-    cond (eqb kind 0)
-    (opening dryer (record { method = a; first = b; second = c; tolerance = e; share = f }))
-    (answer dryer (record { point = a; value = b }))
+-- kind 0 is an opening, any other an answer
+abbrev pub callWith : ℕ → ℕ → Opening → Answer → Call
+callWith kind dryer o a = cond (eqb kind 0) (opening dryer o) (answer dryer a)
 
--- the numbers of a call
+-- the numbers of a call: an opening's method, ends, tolerance and share, or an answer's point and value and three that are not read
 abbrev pub callNumbers : ℕ
 callNumbers = 5
 
+-- of those from a place on
+abbrev pub openingAt : List ℤ → ℕ → Opening
+openingAt xs at =
+    record {
+      method = getD xs at (pos 0);
+      first = getD xs (at + 1) (pos 0);
+      second = getD xs (at + 2) (pos 0);
+      tolerance = getD xs (at + 3) (pos 0);
+      share = getD xs (at + 4) (pos 0);
+    }
+
+abbrev pub answerAt : List ℤ → ℕ → Answer
+answerAt xs at = record { point = getD xs at (pos 0); value = getD xs (at + 1) (pos 0) }
+
 -- the call at place i of the lists
 abbrev pub callAt : List ℕ → List ℕ → List ℤ → ℕ → Call
-callAt ks ds xs i =
-    callWith (getD ks i 0) (getD ds i 0)
-    (getD xs (callNumbers * i) (pos 0)) (getD xs (callNumbers * i + 1) (pos 0)) (getD xs (callNumbers * i + 2) (pos 0))
-    (getD xs (callNumbers * i + 3) (pos 0)) (getD xs (callNumbers * i + 4) (pos 0))
+callAt ks ds xs i = callWith (getD ks i 0) (getD ds i 0) (openingAt xs (callNumbers * i)) (answerAt xs (callNumbers * i))
 
 -- as far as all three lists go, and as the lent list has room for their reports, each written as the numbers of its row
 abbrev pub howMany : List ℕ → List ℕ → List ℤ → List ℕ → ℕ

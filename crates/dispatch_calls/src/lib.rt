@@ -1,8 +1,10 @@
 // The steps of a run of calls to a dispatcher, written down in lists: how many calls there are, and the call at a place, with its report in its
 // place among the rows.
 ghost use mathlib.Core.Path.{_≡_};
+ghost use Prim.Native.Nat.{_+_, _≤_};
+ghost use lib.ListN.{length};
 ghost use Rattle.dispatching.specs.Calls.{callOf};
-ghost use Rattle.dispatch_calls.specs.Listed.{callWith, howMany, Before, CallMade};
+ghost use Rattle.dispatch_calls.specs.Listed.{callWith, callNumbers, openingAt, answerAt, howMany, Before, CallMade};
 use dispatching::Dispatched;
 use dispatching::Dispatcher;
 use rules::Answer;
@@ -13,22 +15,42 @@ pub const CALL_NUMBERS: usize = 5;
 
 pub const NUMBERS_EACH: usize = runs::NUMBERS_EACH;
 
-// A call from its numbers: kind 0 is an opening, any other an answer.
-fn call(kind: u8, d: Dispatcher, dryer: u32, a: i32, b: i32, c: i32, e: i32, f: i32) -> Dispatched
-    ensures { λ r. ⌜ r ≡ callOf d (callWith kind dryer a b c e f) ⌝ }
+// The opening and the answer whose numbers stand from a place on.
+fn opening_at(numbers: &[i32], at: usize) -> Opening
+    requires { ⌜ at + callNumbers ≤ length (now numbers) ⌝ }
+    ensures { λ r. ⌜ r ≡ openingAt (now (numbers .entry)) at ⌝ }
+{
+    let method = numbers[at];
+    let first = numbers[at + 1];
+    let second = numbers[at + 2];
+    let tolerance = numbers[at + 3];
+    let share = numbers[at + 4];
+    Opening {
+        method,
+        first,
+        second,
+        tolerance,
+        share,
+    }
+}
+
+fn answer_at(numbers: &[i32], at: usize) -> Answer
+    requires { ⌜ at + callNumbers ≤ length (now numbers) ⌝ }
+    ensures { λ r. ⌜ r ≡ answerAt (now (numbers .entry)) at ⌝ }
+{
+    let point = numbers[at];
+    let value = numbers[at + 1];
+    Answer { point, value }
+}
+
+// A call by its kind: 0 is an opening, any other an answer.
+fn call(kind: u8, d: Dispatcher, dryer: u32, o: Opening, a: Answer) -> Dispatched
+    ensures { λ r. ⌜ r ≡ callOf d (callWith kind dryer o a) ⌝ }
 {
     if kind == 0 {
-        let opening = Opening {
-            method: a,
-            first: b,
-            second: c,
-            tolerance: e,
-            share: f,
-        };
-        dispatch::open(d, dryer, opening)
+        dispatch::open(d, dryer, o)
     } else {
-        let answer = Answer { point: a, value: b };
-        dispatch::enter(d, dryer, answer)
+        dispatch::enter(d, dryer, a)
     }
 }
 
@@ -55,16 +77,8 @@ pub fn call_at(
     ensures { λ r. ⌜ CallMade i d (now (kinds .entry)) (now (dryers .entry)) (now (numbers .entry)) (now (rows .entry)) r (now (rows .exit)) ⌝ }
 {
     let at = CALL_NUMBERS * i;
-    let told = call(
-        kinds[i],
-        d,
-        dryers[i],
-        numbers[at],
-        numbers[at + 1],
-        numbers[at + 2],
-        numbers[at + 3],
-        numbers[at + 4],
-    );
+    let o = opening_at(numbers, at);
+    let told = call(kinds[i], d, dryers[i], o, answer_at(numbers, at));
     let report = told.report;
     calls::put_row(rows, NUMBERS_EACH * i, rows::row_of(report));
     told.dispatcher

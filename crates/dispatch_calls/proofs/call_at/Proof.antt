@@ -1,24 +1,25 @@
 -- `dispatch_calls::call_at` meets its contract: the call at the place is made, and the row of the report stored.
 -- Assumes nothing.
-use Prim.Native.Nat.{_*_, _+_}
-use mathlib.Core.Path.{_≡_, ap, _∙_}
-use lib.IntN.{pos}
+use Prim.Native.Nat.{_*_}
+use mathlib.Core.Path.{_≡_, ap, ap₂, _∙_}
 use lib.ListN.{getD}
 use lib.Seq.{sets}
-use mir.Syntax.{w32}
-use mir.Val.{SFits}
-use Rattle.integers.specs.Bounds.{read}
+use Rattle.rules.specs.declared.Opening.{Opening}
+use Rattle.rules.specs.declared.Answer.{Answer}
 use Rattle.rules.specs.declared.Row.{Row}
 use Rattle.rules.specs.Rows.{rowOf, rowNumbers, numbersEach}
 use Rattle.dispatching.specs.declared.Dispatched.{Dispatched}
 use Rattle.dispatching.specs.Calls.{callOf}
-use Rattle.dispatch_calls.specs.Listed.{callNumbers, callAt}
+use Rattle.dispatch_calls.specs.Listed.{callWith, callAt}
 use borrow.Author.Needs.{needs}
 use Rattle.dispatch_calls.proofs.call_at.Statement.{statement}
 use Rattle.dispatch_calls.proofs.call_at.Tie as tie
 
+abbrev opened : tie.After-call → tie.After-opening-at
+opened c = c .before .before .before .before
+
 abbrev start : tie.After-call → tie.Start
-start c = c .before .before .before .before .before .before .before .before .before .before .before
+start c = opened c .before .before .before .before
 
 -- the call has the kind, the dryer and the numbers at the place
 made : (c : tie.After-call)
@@ -26,15 +27,15 @@ made : (c : tie.After-call)
     c .call .result ≡ callOf (x .d) (callAt (x .kinds .now) (x .dryers .now) (x .numbers .now) (x .i))
 made c =
     let x = start c .args in
-    let f : SFits w32 (getD (x .numbers .now) (callNumbers * x .i) (pos 0)) = search needs in
-    let g : SFits w32 (getD (x .numbers .now) (callNumbers * x .i + 1) (pos 0)) = search needs in
-    let h : SFits w32 (getD (x .numbers .now) (callNumbers * x .i + 2) (pos 0)) = search needs in
-    let k : SFits w32 (getD (x .numbers .now) (callNumbers * x .i + 3) (pos 0)) = search needs in
-    let l : SFits w32 (getD (x .numbers .now) (callNumbers * x .i + 4) (pos 0)) = search needs in
-    rw (read f, read g, read h, read k, read l) at (c .call .ensures)
+    c .call .ensures
+    ∙ ap₂ (λ (o : Opening) (a : Answer). callOf (x .d) (callWith (getD (x .kinds .now) (x .i) 0) (getD (x .dryers .now) (x .i) 0) o a))
+    (opened c .opening-at .ensures) (c .before .answer-at .ensures)
 
 mul-at : tie.Need-mul-at
 mul-at c = search needs
+
+opening-at-requires : tie.Need-opening-at-requires
+opening-at-requires c κs = search needs
 
 shared-slice-read-call : tie.Need-shared-slice-read-call
 shared-slice-read-call c = search needs
@@ -45,47 +46,8 @@ mul-call c = search needs
 shared-slice-read-call-2 : tie.Need-shared-slice-read-call-2
 shared-slice-read-call-2 c = search needs
 
-mul-call-2 : tie.Need-mul-call-2
-mul-call-2 c = search needs
-
-shared-slice-copy-out-call : tie.Need-shared-slice-copy-out-call
-shared-slice-copy-out-call c = search needs
-
-add-call : tie.Need-add-call
-add-call c = search needs
-
-mul-call-3 : tie.Need-mul-call-3
-mul-call-3 c = search needs
-
-shared-slice-copy-out-call-2 : tie.Need-shared-slice-copy-out-call-2
-shared-slice-copy-out-call-2 c = search needs
-
-add-call-2 : tie.Need-add-call-2
-add-call-2 c = search needs
-
-mul-call-4 : tie.Need-mul-call-4
-mul-call-4 c = search needs
-
-shared-slice-copy-out-call-3 : tie.Need-shared-slice-copy-out-call-3
-shared-slice-copy-out-call-3 c = search needs
-
-add-call-3 : tie.Need-add-call-3
-add-call-3 c = search needs
-
-mul-call-5 : tie.Need-mul-call-5
-mul-call-5 c = search needs
-
-shared-slice-copy-out-call-4 : tie.Need-shared-slice-copy-out-call-4
-shared-slice-copy-out-call-4 c = search needs
-
-add-call-4 : tie.Need-add-call-4
-add-call-4 c = search needs
-
-mul-call-6 : tie.Need-mul-call-6
-mul-call-6 c = search needs
-
-shared-slice-copy-out-call-5 : tie.Need-shared-slice-copy-out-call-5
-shared-slice-copy-out-call-5 c = search needs
+answer-at-requires : tie.Need-answer-at-requires
+answer-at-requires c κs = search needs
 
 call-requires : tie.Need-call-requires
 call-requires c κs = search needs
@@ -118,23 +80,11 @@ call-at-spec =
     tie.close
     (tie.spec
     mul-at
+    opening-at-requires
     shared-slice-read-call
     mul-call
     shared-slice-read-call-2
-    mul-call-2
-    shared-slice-copy-out-call
-    add-call
-    mul-call-3
-    shared-slice-copy-out-call-2
-    add-call-2
-    mul-call-4
-    shared-slice-copy-out-call-3
-    add-call-3
-    mul-call-5
-    shared-slice-copy-out-call-4
-    add-call-4
-    mul-call-6
-    shared-slice-copy-out-call-5
+    answer-at-requires
     call-requires
     mul-put-row
     row-of-requires
