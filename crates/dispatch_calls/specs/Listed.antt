@@ -24,7 +24,7 @@ callWith kind dryer o a = cond (eqb kind 0) (opening dryer o) (answer dryer a)
 abbrev pub callNumbers : ℕ
 callNumbers = 5
 
--- of those from a place on
+-- the opening, and the answer, whose numbers stand from a place on
 abbrev pub openingAt : List ℤ → ℕ → Opening
 openingAt xs at =
     record {
