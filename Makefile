@@ -5,7 +5,7 @@
 # The archive and the programs are for x86-64 Linux.
 PREFIX = /usr/local
 DESTDIR =
-PROGRAMS = zeroin clean
+PROGRAMS = zeroin clean old_default
 VERSION = $(shell sed -n 's/^.define BUSDEKKER_VERSION //p' include/busdekker.h)
 ARCHIVE = target/staticlib/libbusdekker.a
 

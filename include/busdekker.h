@@ -47,8 +47,11 @@ extern "C" {
  * between braces it is 0. A host that kept a search of version 6 copies its opening's four numbers, with 0 for the share, its count and its
  * slots; of a dispatcher, each search so, the mark and the counts. What is older is copied as said above, with 0 for the share. The reports are
  * the same: with share 0 the tolerance at every point is the tolerance. A sheet whose first record has five fields is no longer malformed (12)
- * for that; it is judged by the rest of it. */
-#define BUSDEKKER_VERSION 7
+ * for that; it is judged by the rest of it. Since version 8 the house default is R, where it was M, and there is busdekker_change_over. No struct
+ * has changed. A quotation with method 0 is larger than it was, and a search or a sheet with method 0 that was begun before version 8 was asked
+ * by M: read as it is it may be refused, or be sent to other points. A host that kept such a search, by itself or in a dispatcher, copies it
+ * where it is of version 6 or older as said above, and then changes it over. */
+#define BUSDEKKER_VERSION 8
 
 /* The answers that a search keeps. */
 #define BUSDEKKER_SLOTS 77
@@ -75,7 +78,7 @@ extern "C" {
 
 /* The methods. */
 enum busdekker_method {
-    BUSDEKKER_HOUSE = 0, /* the house default, which is M */
+    BUSDEKKER_HOUSE = 0, /* the house default, which is R */
     BUSDEKKER_M = 1,
     BUSDEKKER_R = 2
 };
@@ -134,7 +137,8 @@ struct busdekker_answer {
 };
 
 /* A search that the host holds: its opening, the number of answers taken, and their values in the first slots. The others hold 0. Only
- * busdekker_open and busdekker_enter should write it, but for the copy from an older version that stands at BUSDEKKER_VERSION. */
+ * busdekker_open, busdekker_enter and busdekker_change_over should write it, but for the copy from an older version that stands at
+ * BUSDEKKER_VERSION. */
 struct busdekker_search {
     struct busdekker_opening opening;
     uint32_t count;
@@ -146,7 +150,7 @@ struct busdekker_search {
  * the number of answers served there. A dryer without a search holds the blank one, every number 0, whose report is a refusal (3). A mark
  * `last` that is not 0 to 5 reads as none served. Only busdekker_dispatch_open and busdekker_dispatch_enter should write it, its searches too,
  * but for the copy from an older version that stands at BUSDEKKER_VERSION; its searches may be lent to what reads a search, as
- * &dispatcher.searches[2] to busdekker_write.
+ * &dispatcher.searches[2] to busdekker_write, and each of them, where it was begun before version 8, once to busdekker_change_over.
  *
  * The oven's turn goes to the next dryer whose search is accepted and unfinished, which is to say that its report is BUSDEKKER_NEXT: counting
  * round from the one after the last served, or from dryer 0 where none was. An accepted answer serves the turn; a refused one leaves it. While
@@ -277,6 +281,18 @@ struct busdekker_report busdekker_sheet(const uint8_t *text, size_t length);
  * place 0, where `size` is below the sheet's length.
  */
 struct busdekker_written busdekker_write(const struct busdekker_search *search, uint8_t *buffer, size_t size);
+
+/*
+ * Changes over a search that was begun before version 8, when BUSDEKKER_HOUSE was M: it is read with 0 as M, and its method 0 becomes
+ * BUSDEKKER_M. Methods 1 and 2 stay, and so does every other number of *search. The report is the one that the search had then, and
+ * busdekker_ask tells it from now on: what was called for is called for still. The clean sheet of *search is from then on what the program
+ * old_default writes of the clean sheet that it had before.
+ * A refusal (1 to 5, 7 to 9, 17, with the place that busdekker_ask told then) leaves *search as it was. 3 is also told of a dryer of a dispatcher
+ * that has no search.
+ * A search does not tell when it was begun. One that was opened with 0 since version 8 was asked by R and must not be changed over: its values
+ * would then be taken for those of other points. A search that is changed over again stays as it is.
+ */
+struct busdekker_report busdekker_change_over(struct busdekker_search *search);
 
 /* A fresh dispatcher: no dryer has a search, `last` is BUSDEKKER_NOBODY, and all six counts are 0. */
 struct busdekker_dispatcher busdekker_dispatch_fresh(void);

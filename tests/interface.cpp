@@ -115,6 +115,34 @@ static bool limits_of_sheets() {
     return same && first.size() + BUSDEKKER_SLOTS * answer.size() == sizeof buffer;
 }
 
+// With method 0 an opening is quoted and asked by R. A search that M asked under method 0 is changed over: it has its old report, and its clean
+// sheet has method 1. Changed over again it stays; one by R stays too; and a refused one keeps every byte.
+static bool changes_over() {
+    const busdekker_opening by_m = {BUSDEKKER_M, 0, 100, 1, 0}, by_default = {BUSDEKKER_HOUSE, 0, 100, 1, 0}, by_r = {BUSDEKKER_R, 0, 100, 1, 0};
+    const int32_t values[] = {-50, 100, -10};
+    bool same = busdekker_quote(by_default).most == 32 && busdekker_quote(by_r).most == 32 && busdekker_quote(by_m).most == 26;
+    same = same && busdekker_values(by_default, values, 3).point == 40 && busdekker_values(by_m, values, 3).point == 41;
+    busdekker_search search;
+    same = same && busdekker_open(&search, by_m).point == 0 && busdekker_enter(&search, 0, -50).point == 100;
+    same = same && busdekker_enter(&search, 100, 100).point == 33 && busdekker_enter(&search, 33, -10).point == 41;
+    const busdekker_search begun = search;
+    search.opening.method = BUSDEKKER_HOUSE;
+    same = same && busdekker_ask(&search).point == 40 && busdekker_change_over(&search).point == 41;
+    same = same && std::memcmp(&search, &begun, sizeof search) == 0 && busdekker_ask(&search).point == 41;
+    uint8_t buffer[BUSDEKKER_LONGEST_CLEAN_SHEET];
+    const busdekker_written written = busdekker_write(&search, buffer, sizeof buffer);
+    same = same && std::string(buffer, buffer + written.length) == "1,0,100,1\r\n0,-50\r\n100,100\r\n33,-10\r\n";
+    same = same && busdekker_change_over(&search).point == 41 && std::memcmp(&search, &begun, sizeof search) == 0;
+    search.opening.method = BUSDEKKER_R;
+    same = same && busdekker_change_over(&search).point == 40 && search.opening.method == BUSDEKKER_R;
+    search.opening.method = BUSDEKKER_HOUSE;
+    search.slots[1] = -100;
+    const busdekker_search refused = search;
+    const busdekker_report refusal = busdekker_change_over(&search);
+    same = same && refusal.number == BUSDEKKER_SAME_SIDE && refusal.place == 1;
+    return same && std::memcmp(&search, &refused, sizeof search) == 0;
+}
+
 // The calls on a dispatcher: dryers 4 and 1 are opened, 1 has the turn first, and then 4.
 static bool dispatches(busdekker_opening opening, busdekker_opening refused) {
     const busdekker_answer answer = {0, -1};
@@ -159,6 +187,6 @@ int main() {
     const busdekker_written written = busdekker_write(&search, buffer, sizeof buffer);
     same = same && written.kind == BUSDEKKER_WRITTEN && written.length == sizeof clean - 1 && std::memcmp(buffer, clean, written.length) == 0;
     same = same && busdekker_write(&search, buffer, written.length - 1).number == BUSDEKKER_BUFFER_TOO_SHORT;
-    same = same && dispatches(opening, refused) && limits_of_ends() && limits_of_shares() && tolerance_with_a_share();
+    same = same && changes_over() && dispatches(opening, refused) && limits_of_ends() && limits_of_shares() && tolerance_with_a_share();
     return same && limits_of_counts(opening) && limits_of_sheets() ? 0 : 1;
 }

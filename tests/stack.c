@@ -25,6 +25,7 @@ static ucontext_t here, there;
 /* What the calls are made on, and the sum of what they answer. */
 static struct busdekker_opening opening;
 static struct busdekker_search search;
+static struct busdekker_search old;
 static int32_t point, value;
 static char text[BUSDEKKER_LONGEST_SHEET];
 static size_t length;
@@ -74,6 +75,15 @@ static void sheet(void) {
 static void write_clean(void) {
     kinds += busdekker_write(&search, clean, sizeof clean).kind;
     kinds += busdekker_write(&search, clean, 0).kind;
+}
+
+/* Of a copy with method 0, and of one that is refused. */
+static void change_over(void) {
+    old = search;
+    old.opening.method = BUSDEKKER_HOUSE;
+    kinds += busdekker_change_over(&old).kind;
+    old.opening.method = 3;
+    kinds += busdekker_change_over(&old).kind;
 }
 
 static void dispatch_fresh(void) {
@@ -134,7 +144,8 @@ struct call {
 static struct call on_searches[] = {
     {"busdekker_version", version, 0}, {"busdekker_quote", quote, 0},       {"busdekker_open", open_anew, 0},
     {"busdekker_entered", entered, 0}, {"busdekker_ask", ask, 0},           {"busdekker_values", values, 0},
-    {"busdekker_sheet", sheet, 0},     {"busdekker_write", write_clean, 0}, {"busdekker_enter", enter, 0},
+    {"busdekker_sheet", sheet, 0},     {"busdekker_write", write_clean, 0}, {"busdekker_change_over", change_over, 0},
+    {"busdekker_enter", enter, 0},
 };
 static struct call on_dispatchers[] = {
     {"busdekker_dispatch_fresh", dispatch_fresh, 0}, {"busdekker_dispatch_turn", dispatch_turn, 0},

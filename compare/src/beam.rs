@@ -65,7 +65,7 @@ fn children(nodes: &[Node], opening: &Opening, width: usize, rng: &mut Rng) -> V
 /// as wide as the tolerance at its better end, less the steps gone since the last. It is 2 to that
 /// power, and the width 256 times as large, so as to be a whole number.
 fn promise(walk: &Walk, opening: &Opening) -> u128 {
-    let steps = if opening.method == 2 { 5 } else { 4 };
+    let steps = if opening.method == 1 { 4 } else { 5 };
     let width = 256 * walk.length() / walk.tolerance_at_b();
     (width as u128).pow(steps) << (steps - walk.streak().min(steps))
 }

@@ -1,7 +1,7 @@
 //! Openings, lists of values, held searches and dispatchers made at random, of every kind that a host
 //! may bring.
 
-use crate::model::{self, Book};
+use crate::model::{self, Book, Reading};
 use crate::rng::Rng;
 use crate::types::{Dispatcher, Opening, Search, DRYERS, SLOTS};
 use std::array;
@@ -107,6 +107,16 @@ pub fn any_opening(rng: &mut Rng) -> Opening {
         for _ in 0..1 + rng.below(3) {
             spoil(&mut opening, rng);
         }
+    }
+    opening
+}
+
+/// An opening of any kind for an old search: three in four of those with method 1 or 2 have 0, the
+/// house default.
+pub fn old_opening(rng: &mut Rng) -> Opening {
+    let mut opening = any_opening(rng);
+    if [1, 2].contains(&opening.method) && !rng.once_in(4) {
+        opening.method = 0;
     }
     opening
 }
@@ -250,8 +260,12 @@ pub fn answered(opening: Opening, rng: &mut Rng) -> Book {
 
 /// The same with these values, which are accepted, before the oven's.
 pub fn answered_from(opening: Opening, values: &[i32], rng: &mut Rng) -> Book {
-    let oven = Oven::new(&opening, rng);
-    let mut book = Book::of(opening, values);
+    to_its_stop(Book::of(opening, values), rng)
+}
+
+/// A book that an oven answers from where it stands up to its stop.
+pub fn to_its_stop(mut book: Book, rng: &mut Rng) -> Book {
+    let oven = Oven::new(book.opening(), rng);
     while let Some(point) = book.called() {
         let value = oven.value(&book, point, rng);
         // A second value on the side of the first is refused: it is taken over to the other side.
@@ -267,11 +281,16 @@ pub fn answered_from(opening: Opening, values: &[i32], rng: &mut Rng) -> Book {
 /// A list of values for any opening: as they were called for, or altered, or of any kind.
 pub fn any_list(rng: &mut Rng) -> (Opening, Vec<i32>) {
     let opening = any_opening(rng);
+    (opening, any_list_of(opening, model::TODAY, rng))
+}
+
+/// Such a list for this opening, called for by this reading of its method.
+fn any_list_of(opening: Opening, reading: Reading, rng: &mut Rng) -> Vec<i32> {
     if model::refused_opening(&opening).is_some() || rng.once_in(16) {
         let n = rng.pick(&[0, 1, 2, 3, 10, 90]);
-        return (opening, (0..n).map(|_| any_value(rng)).collect());
+        return (0..n).map(|_| any_value(rng)).collect();
     }
-    let mut values = answered(opening, rng).values();
+    let mut values = to_its_stop(reading.book(opening), rng).values();
     match rng.below(8) {
         0 => values.truncate(rng.below(values.len())),
         1 => lengthen(&mut values, rng),
@@ -285,7 +304,7 @@ pub fn any_list(rng: &mut Rng) -> (Opening, Vec<i32>) {
         }
         _ => (),
     }
-    (opening, values)
+    values
 }
 
 /// Makes a list too long, mostly by a few values.
@@ -300,7 +319,12 @@ fn lengthen(values: &mut Vec<i32>, rng: &mut Rng) {
 
 /// A held search of any kind: slots past its count hold anything, and its count may be too high.
 pub fn any_search(rng: &mut Rng) -> Search {
-    let (opening, values) = any_list(rng);
+    any_search_of(any_opening(rng), model::TODAY, rng)
+}
+
+/// Such a search of this opening, called for by this reading of its method.
+pub fn any_search_of(opening: Opening, reading: Reading, rng: &mut Rng) -> Search {
+    let values = any_list_of(opening, reading, rng);
     let mut search = Search::fresh(opening);
     if rng.once_in(2) {
         search.slots.fill_with(|| rng.any());

@@ -138,7 +138,8 @@ fn with_slots(search: &Search, number: impl FnMut() -> i32) -> Search {
     other
 }
 
-fn with_junk(search: &Search, rng: &mut Rng) -> Search {
+/// The search with any numbers there.
+pub fn with_junk(search: &Search, rng: &mut Rng) -> Search {
     with_slots(search, || rng.any())
 }
 

@@ -6,7 +6,7 @@ use crate::types::{Answer, Answered, Dispatcher, Opening, Quotation, Report, Sea
 pub const WHO: &str = "the proved library, target/staticlib/libbusdekker.a";
 
 /// The version of the interface that is declared here.
-pub const VERSION: u32 = 7;
+pub const VERSION: u32 = 8;
 
 extern "C" {
     fn busdekker_version() -> u32;
@@ -15,6 +15,7 @@ extern "C" {
     fn busdekker_enter(search: *mut Search, point: i32, value: i32) -> Report;
     fn busdekker_entered(search: Search, point: i32, value: i32) -> Answered;
     fn busdekker_ask(search: *const Search) -> Report;
+    fn busdekker_change_over(search: *mut Search) -> Report;
     fn busdekker_values(opening: Opening, values: *const i32, length: usize) -> Report;
     fn busdekker_sheet(text: *const u8, length: usize) -> Report;
     fn busdekker_write(search: *const Search, buffer: *mut u8, size: usize) -> Written;
@@ -60,6 +61,12 @@ pub fn entered(search: Search, point: i32, value: i32) -> Answered {
 pub fn ask(search: &Search) -> Report {
     // The reference is to a whole search, which is only read.
     unsafe { busdekker_ask(search) }
+}
+
+/// An old search of the host's own, whose method 0 is M, in today's numbers.
+pub fn change_over(search: &mut Search) -> Report {
+    // The reference is to a whole search that nobody else reads or writes.
+    unsafe { busdekker_change_over(search) }
 }
 
 /// The report of the search over a list of values.

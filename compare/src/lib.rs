@@ -14,6 +14,7 @@ pub mod dispatcher;
 pub mod ffi;
 pub mod limits;
 pub mod model;
+pub mod old_default;
 pub mod oven;
 pub mod picture;
 pub mod plain;

@@ -50,12 +50,23 @@ fn opening_agrees(opening: &Opening, tally: &mut Tally) -> Checked {
     Ok(())
 }
 
-/// One search as it stands, then with an answer offered at the point called for, then opened anew.
+/// One search as it stands, then changed over as an old one; then as it stood with an answer offered
+/// at the point called for, and then opened anew.
 fn held_agrees(search: &Search, tally: &mut Tally) -> Checked {
     let input = || search_as_sheet(search);
     let (mut model, mut library) = (*search, *search);
     let asked = (model::ask(&model), ffi::ask(&library));
     agree(asked.0, asked.1, input)?;
+    let (mut changed_model, mut changed_library) = (*search, *search);
+    let changed = (
+        model::change_over(&mut changed_model),
+        ffi::change_over(&mut changed_library),
+    );
+    agree(
+        (changed.0, changed_model),
+        (changed.1, changed_library),
+        input,
+    )?;
     let point = asked.0.point as i32;
     let entered = (
         model::enter(&mut model, point, 1),
@@ -67,7 +78,7 @@ fn held_agrees(search: &Search, tally: &mut Tally) -> Checked {
         ffi::open(&mut library, &search.opening),
     );
     agree((opened.0, model), (opened.1, library), input)?;
-    for report in [asked.1, entered.1, opened.1] {
+    for report in [asked.1, changed.1, entered.1, opened.1] {
         tally.count(&report);
     }
     tally.cases += 1;

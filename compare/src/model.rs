@@ -1,10 +1,46 @@
 //! The model, from document 01 and the requests since, and from nothing else. Slow and plain:
 //! exact fractions, brackets kept in a list, the streak found by looking back over that list, and
-//! every report worked out from the beginning.
+//! every report worked out from the beginning. The functions outside `Reading` read method 0 as it
+//! is read today.
 
 use crate::types::{Opening, Quotation, Report, Search, Written, SLOTS};
 use std::cmp::Ordering;
 use std::ops::RangeInclusive;
+
+/// The algorithms.
+#[derive(Clone, Copy, Debug, PartialEq, Eq)]
+enum Algorithm {
+    M,
+    R,
+}
+
+/// How methods are read: the algorithm that the house default, method 0, stands for.
+#[derive(Clone, Copy, Debug, PartialEq, Eq)]
+pub struct Reading {
+    house: Algorithm,
+}
+
+/// Since request 2026-08 the house default is R.
+pub const TODAY: Reading = Reading {
+    house: Algorithm::R,
+};
+
+/// Until then it was M, and old sheets and old searches are read so.
+pub const OLD: Reading = Reading {
+    house: Algorithm::M,
+};
+
+impl Reading {
+    /// The algorithm of a method that is not refused.
+    fn algorithm(self, method: i32) -> Algorithm {
+        match method {
+            0 => self.house,
+            1 => Algorithm::M,
+            2 => Algorithm::R,
+            _ => panic!("method {method} stands for no algorithm"),
+        }
+    }
+}
 
 /// An exact fraction. The denominator is above 0.
 #[derive(Clone, Copy, Debug)]
@@ -153,24 +189,23 @@ fn rational(now: &Bracket) -> Option<Ratio> {
 }
 
 /// Rule 8: u for the next step, or none where D is to be L/2 rounded down.
-fn estimate(method: i32, list: &[Bracket]) -> Option<Ratio> {
+fn estimate(algorithm: Algorithm, list: &[Bracket]) -> Option<Ratio> {
     let now = &list[list.len() - 1];
     let s = streak(list);
-    if method == 2 {
-        match s {
+    match algorithm {
+        Algorithm::M => match s {
+            0 | 1 => linear(now),
+            2 => rational(now),
+            3 => None,
+            _ => panic!("M with a streak of {s}"),
+        },
+        Algorithm::R => match s {
             _ if list.len() == 1 => linear(now),
             0..=2 => rational(now),
             3 => rational(now).map(|u| u.times(2)),
             4 => None,
             _ => panic!("R with a streak of {s}"),
-        }
-    } else {
-        match s {
-            0 | 1 => linear(now),
-            2 => rational(now),
-            3 => None,
-            _ => panic!("M with a streak of {s}"),
-        }
+        },
     }
 }
 
@@ -198,7 +233,7 @@ enum Stand {
 }
 
 /// Rules 1 to 8 applied to answers that were all accepted, of an accepted opening.
-fn stand(opening: &Opening, answers: &[Answer]) -> Stand {
+fn stand(reading: Reading, opening: &Opening, answers: &[Answer]) -> Stand {
     let list = brackets(answers);
     let now = match (answers.len(), list.last()) {
         (0, _) => return Stand::Call(opening.first.into()),
@@ -210,15 +245,15 @@ fn stand(opening: &Opening, answers: &[Answer]) -> Stand {
     if now.length() <= 2 * tolerance {
         return Stand::Stop(*now);
     }
-    let u = estimate(opening.method, &list);
+    let u = estimate(reading.algorithm(opening.method), &list);
     let d = displacement(u, now.length(), tolerance);
     Stand::Call(now.b.point + d * now.direction())
 }
 
 /// The report of answers that were all accepted.
-fn report_of(opening: &Opening, answers: &[Answer]) -> Report {
+fn report_of(reading: Reading, opening: &Opening, answers: &[Answer]) -> Report {
     let taken = answers.len() as u32;
-    match stand(opening, answers) {
+    match stand(reading, opening, answers) {
         Stand::Call(point) => Report::next(point as u32, taken),
         Stand::Stop(Bracket { b, c, .. }) => {
             let (lower, upper) = (b.point.min(c.point), b.point.max(c.point));
@@ -256,14 +291,14 @@ fn same_side(answers: &[Answer], value: i32) -> bool {
 }
 
 /// The search over a list of values: the answers that they make, or the refusal and its index.
-fn walk(opening: &Opening, values: &[i32]) -> Result<Vec<Answer>, Report> {
+fn walk(reading: Reading, opening: &Opening, values: &[i32]) -> Result<Vec<Answer>, Report> {
     if let Some(number) = refused_opening(opening) {
         return Err(Report::refuse(number, 0));
     }
     let mut answers = Vec::new();
     for (index, &value) in values.iter().enumerate() {
         let refuse = |number| Err(Report::refuse(number, index as u32));
-        let Stand::Call(point) = stand(opening, &answers) else {
+        let Stand::Call(point) = stand(reading, opening, &answers) else {
             return refuse(5);
         };
         if out_of_range(value) {
@@ -278,12 +313,19 @@ fn walk(opening: &Opening, values: &[i32]) -> Result<Vec<Answer>, Report> {
     Ok(answers)
 }
 
+impl Reading {
+    /// The report of the search over a list of values.
+    pub fn values(self, opening: &Opening, values: &[i32]) -> Report {
+        match walk(self, opening, values) {
+            Ok(answers) => report_of(self, opening, &answers),
+            Err(refusal) => refusal,
+        }
+    }
+}
+
 /// The report of the search over a list of values.
 pub fn values(opening: &Opening, values: &[i32]) -> Report {
-    match walk(opening, values) {
-        Ok(answers) => report_of(opening, &answers),
-        Err(refusal) => refusal,
-    }
+    TODAY.values(opening, values)
 }
 
 /// A fresh search in the host's own, which stays as it is if the opening is refused.
@@ -300,12 +342,19 @@ fn held(search: &Search) -> Result<&[i32], Report> {
     search.slots.get(..count).ok_or(Report::refuse(9, 0))
 }
 
+impl Reading {
+    /// The report of a held search.
+    pub fn ask(self, search: &Search) -> Report {
+        match held(search) {
+            Ok(list) => self.values(&search.opening, list),
+            Err(refusal) => refusal,
+        }
+    }
+}
+
 /// The report of a held search.
 pub fn ask(search: &Search) -> Report {
-    match held(search) {
-        Ok(list) => values(&search.opening, list),
-        Err(refusal) => refusal,
-    }
+    TODAY.ask(search)
 }
 
 /// An answer entered into the host's own search.
@@ -322,12 +371,12 @@ pub fn enter(search: &mut Search, point: i32, value: i32) -> Report {
 
 /// The refusal, if there is one, of an answer offered to a held search. What is held comes first.
 fn offered(search: &Search, point: i32, value: i32) -> Option<Report> {
-    let answers = match held(search).and_then(|list| walk(&search.opening, list)) {
+    let answers = match held(search).and_then(|list| walk(TODAY, &search.opening, list)) {
         Ok(answers) => answers,
         Err(refusal) => return Some(refusal),
     };
     let refuse = |number| Some(Report::refuse(number, search.count));
-    match stand(&search.opening, &answers) {
+    match stand(TODAY, &search.opening, &answers) {
         Stand::Stop(_) => refuse(5),
         Stand::Call(called) if called != i128::from(point) => refuse(6),
         Stand::Call(_) if out_of_range(value) => refuse(7),
@@ -336,43 +385,69 @@ fn offered(search: &Search, point: i32, value: i32) -> Option<Report> {
     }
 }
 
-/// Demand 3's t, the least for which τ·2^(t+1) reaches the distance, and the most answers. Both are
-/// from τ alone, whatever p is.
-pub fn quote(opening: &Opening) -> Quotation {
-    if let Some(number) = refused_opening(opening) {
-        return Quotation::refuse(number);
+impl Reading {
+    /// Demand 3's t, the least for which τ·2^(t+1) reaches the distance, and the most answers. Both
+    /// are from τ alone, whatever p is.
+    pub fn quote(self, opening: &Opening) -> Quotation {
+        if let Some(number) = refused_opening(opening) {
+            return Quotation::refuse(number);
+        }
+        let distance = i64::from(opening.first.abs_diff(opening.second));
+        let enough = |t: &u32| i64::from(opening.tolerance) << (t + 1) >= distance;
+        let t = (0..).find(enough).expect("there is a least t");
+        let steps = match self.algorithm(opening.method) {
+            Algorithm::M => 4,
+            Algorithm::R => 5,
+        };
+        Quotation::quote(t, 2 + steps * t)
     }
-    let distance = i64::from(opening.first.abs_diff(opening.second));
-    let enough = |t: &u32| i64::from(opening.tolerance) << (t + 1) >= distance;
-    let t = (0..).find(enough).expect("there is a least t");
-    let steps = if opening.method == 2 { 5 } else { 4 };
-    Quotation::quote(t, 2 + steps * t)
+}
+
+/// t and the most answers.
+pub fn quote(opening: &Opening) -> Quotation {
+    TODAY.quote(opening)
 }
 
 /// The trial book: a list of answers. It is fed the opening and the answers offered, nothing else.
 pub struct Book {
+    reading: Reading,
     opening: Opening,
     answers: Vec<Answer>,
 }
 
-impl Book {
+impl Reading {
     /// The book of an accepted opening.
-    pub fn new(opening: Opening) -> Self {
+    pub fn book(self, opening: Opening) -> Book {
         assert_eq!(refused_opening(&opening), None);
-        let answers = Vec::new();
-        Book { opening, answers }
+        Book {
+            reading: self,
+            opening,
+            answers: Vec::new(),
+        }
     }
 
     /// The book of an accepted opening and values that are all accepted, each offered at the point
     /// called for.
-    pub fn of(opening: Opening, values: &[i32]) -> Self {
-        let mut book = Book::new(opening);
+    pub fn book_of(self, opening: Opening, values: &[i32]) -> Book {
+        let mut book = self.book(opening);
         for &value in values {
             let point = book.called().expect("no value comes after the stop");
             book.offer(point, value);
         }
         assert_eq!(book.values(), values);
         book
+    }
+}
+
+impl Book {
+    /// The book of an accepted opening.
+    pub fn new(opening: Opening) -> Self {
+        TODAY.book(opening)
+    }
+
+    /// The book of an accepted opening and values that are all accepted.
+    pub fn of(opening: Opening, values: &[i32]) -> Self {
+        TODAY.book_of(opening, values)
     }
 
     pub fn answers(&self) -> &[Answer] {
@@ -395,12 +470,12 @@ impl Book {
     }
 
     pub fn report(&self) -> Report {
-        report_of(&self.opening, &self.answers)
+        report_of(self.reading, &self.opening, &self.answers)
     }
 
     /// The point called for; none at the stop.
     pub fn called(&self) -> Option<i32> {
-        match stand(&self.opening, &self.answers) {
+        match stand(self.reading, &self.opening, &self.answers) {
             Stand::Call(point) => Some(point as i32),
             Stand::Stop(_) => None,
         }
@@ -443,10 +518,17 @@ impl Book {
     }
 }
 
+impl Reading {
+    /// The clean sheet of a held search, its method as held, or the refusal of the search itself.
+    pub fn clean(self, search: &Search) -> Result<Vec<u8>, Report> {
+        let answers = walk(self, &search.opening, held(search)?)?;
+        Ok(clean_records(&search.opening, &answers))
+    }
+}
+
 /// The clean sheet of a held search, or the refusal of the search itself.
 pub fn clean(search: &Search) -> Result<Vec<u8>, Report> {
-    let answers = walk(&search.opening, held(search)?)?;
-    Ok(clean_records(&search.opening, &answers))
+    TODAY.clean(search)
 }
 
 /// The clean sheet of a held search written into a lent buffer. Past the sheet, and where
@@ -468,8 +550,41 @@ pub fn write(search: &Search, buffer: &mut [u8]) -> Written {
 pub fn clean_text(text: &[u8]) -> Vec<u8> {
     match read(text) {
         Ok(book) => clean_records(&book.opening, &book.answers),
-        Err(refusal) => format!("{refusal}\r\n").into_bytes(),
+        Err(refusal) => refuse_record(&refusal),
     }
+}
+
+/// The record that a program writes for a sheet that is refused.
+fn refuse_record(refusal: &Report) -> Vec<u8> {
+    format!("{refusal}\r\n").into_bytes()
+}
+
+/// Request 2026-08: the opening under which an old search goes on. The house default of its day
+/// has become method 1; methods 1 and 2 are kept.
+fn changed_over(old: &Opening) -> Opening {
+    match old.method {
+        0 => Opening { method: 1, ..*old },
+        _ => *old,
+    }
+}
+
+/// Request 2026-08: what the program `old_default` writes for a text. It is read with 0 as M, and
+/// its clean sheet has method 1 in the place of 0; or it is the record of that reading's refusal.
+pub fn old_default(text: &[u8]) -> Vec<u8> {
+    match OLD.read(text) {
+        Ok(book) => clean_records(&changed_over(&book.opening), &book.answers),
+        Err(refusal) => refuse_record(&refusal),
+    }
+}
+
+/// The same for the host's own search, which stays as it is if the old reading refuses it. The
+/// report is that of the old reading.
+pub fn change_over(search: &mut Search) -> Report {
+    let report = OLD.ask(search);
+    if report.kind != Report::REFUSED {
+        search.opening = changed_over(&search.opening);
+    }
+    report
 }
 
 /// The opening with its method as held, and its share if it is not 0; then every answer with its
@@ -494,39 +609,59 @@ fn clean_record(numbers: &[i128]) -> String {
     fields.join(",") + "\r\n"
 }
 
-/// The sheet reader: the program's report of a text. Places are record numbers.
-pub fn sheet(text: &[u8]) -> Report {
-    match read(text) {
-        Ok(book) => book.report(),
-        Err(refusal) => refusal,
+impl Reading {
+    /// The sheet reader: the program's report of a text. Places are record numbers.
+    pub fn sheet(self, text: &[u8]) -> Report {
+        match self.read(text) {
+            Ok(book) => book.report(),
+            Err(refusal) => refusal,
+        }
+    }
+
+    /// The book that a text is, its answers all taken, or the refusal. Places are record numbers.
+    pub fn read(self, text: &[u8]) -> Result<Book, Report> {
+        let rows = rows(text)?;
+        let opening = opening_of(&rows[0]);
+        if let Some(number) = refused_opening(&opening) {
+            return Err(Report::refuse(number, 1));
+        }
+        let mut answers: Vec<Answer> = Vec::new();
+        for (row, record) in rows[1..].iter().zip(2..) {
+            let (point, value) = (i128::from(row[0]), i128::from(row[1]));
+            let cause = match stand(self, &opening, &answers) {
+                Stand::Stop(_) => 5,
+                Stand::Call(called) if point != called => 6,
+                Stand::Call(_) if !(-10_000..=10_000).contains(&value) => 7,
+                Stand::Call(_) if answers.len() == 1 && answers[0].value * value > 0 => 8,
+                Stand::Call(_) => {
+                    answers.push(Answer { point, value });
+                    continue;
+                }
+            };
+            return Err(Report::refuse(cause, record));
+        }
+        Ok(Book {
+            reading: self,
+            opening,
+            answers,
+        })
     }
 }
 
-/// The book that a text is, its answers all taken, or the refusal. Places are record numbers.
+/// The program's report of a text.
+pub fn sheet(text: &[u8]) -> Report {
+    TODAY.sheet(text)
+}
+
+/// The book that a text is, or the refusal.
 pub fn read(text: &[u8]) -> Result<Book, Report> {
-    let rows = rows(text)?;
-    let head = &rows[0];
+    TODAY.read(text)
+}
+
+/// The opening of a first record of four numbers or five; with four, the share is 0.
+fn opening_of(head: &[i32]) -> Opening {
     let share = if head.len() == 5 { head[4] } else { 0 };
-    let opening = Opening::new(head[0], head[1], head[2], head[3]).with_share(share);
-    if let Some(number) = refused_opening(&opening) {
-        return Err(Report::refuse(number, 1));
-    }
-    let mut answers: Vec<Answer> = Vec::new();
-    for (row, record) in rows[1..].iter().zip(2..) {
-        let (point, value) = (i128::from(row[0]), i128::from(row[1]));
-        let cause = match stand(&opening, &answers) {
-            Stand::Stop(_) => 5,
-            Stand::Call(called) if point != called => 6,
-            Stand::Call(_) if !(-10_000..=10_000).contains(&value) => 7,
-            Stand::Call(_) if answers.len() == 1 && answers[0].value * value > 0 => 8,
-            Stand::Call(_) => {
-                answers.push(Answer { point, value });
-                continue;
-            }
-        };
-        return Err(Report::refuse(cause, record));
-    }
-    Ok(Book { opening, answers })
+    Opening::new(head[0], head[1], head[2], head[3]).with_share(share)
 }
 
 /// The whole text and each record in turn: the numbers of each record, or refusal 10, 11 or 12.

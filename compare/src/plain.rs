@@ -58,7 +58,7 @@ impl Walk {
             call: i64::from(opening.first),
             taken: 0,
             streak: 0,
-            is_r: opening.method == 2,
+            is_r: opening.method != 1,
             last_is_b: false,
             stopped: false,
         })
@@ -291,6 +291,20 @@ pub fn ask(search: &Search) -> Report {
     }
 }
 
+/// An old search of the host's own, whose method 0 is M, in today's numbers: 0 becomes 1. If what it
+/// holds is refused, it stays as it is.
+pub fn change_over(search: &mut Search) -> Report {
+    let method = search.opening.method;
+    if method == 0 {
+        search.opening.method = 1;
+    }
+    let report = ask(search);
+    if report.kind == Report::REFUSED {
+        search.opening.method = method;
+    }
+    report
+}
+
 /// An answer entered into the host's own search.
 pub fn enter(search: &mut Search, point: i32, value: i32) -> Report {
     match held(search) {
@@ -333,7 +347,7 @@ pub fn quote(opening: &Opening) -> Quotation {
             let width = opening.first.abs_diff(opening.second);
             let whole = (width - 1) / (2 * opening.tolerance as u32);
             let t = u32::BITS - whole.leading_zeros();
-            let steps = if opening.method == 2 { 5 } else { 4 };
+            let steps = if opening.method == 1 { 4 } else { 5 };
             Quotation::quote(t, 2 + steps * t)
         }
         Err(number) => Quotation::refuse(number),

@@ -1,7 +1,7 @@
 //! Trial sheets: how they are written, and every way in which a file can be damaged.
 
 use crate::cases;
-use crate::model;
+use crate::model::{self, Reading};
 use crate::rng::Rng;
 use crate::types::{Opening, SLOTS};
 use std::fmt::{self, Debug};
@@ -91,7 +91,12 @@ impl Debug for Text {
 
 /// A text of any kind: whole, damaged, too long, with too many records, or not a sheet at all.
 pub fn any_text(rng: &mut Rng) -> Vec<u8> {
-    let mut sheet = any_records(rng);
+    any_text_of(cases::any_opening(rng), model::TODAY, rng)
+}
+
+/// Such a text with this opening, asked by this reading of its method.
+pub fn any_text_of(opening: Opening, reading: Reading, rng: &mut Rng) -> Vec<u8> {
+    let mut sheet = any_records(opening, reading, rng);
     match rng.below(16) {
         0 => return sized(&sheet.concat(), rng),
         1 => return counted(sheet, rng),
@@ -108,13 +113,12 @@ pub fn any_text(rng: &mut Rng) -> Vec<u8> {
 }
 
 /// A sheet in good form. Its opening or one of its answers may be one to refuse.
-fn any_records(rng: &mut Rng) -> Vec<Record> {
-    let opening = cases::any_opening(rng);
+fn any_records(opening: Opening, reading: Reading, rng: &mut Rng) -> Vec<Record> {
     if model::refused_opening(&opening).is_some() {
         let answers = [(0, cases::any_value(rng)), (100, cases::any_value(rng))];
         return spelt(&opening, &answers[..rng.below(3)], rng);
     }
-    let mut answers = cases::answered(opening, rng).pairs();
+    let mut answers = cases::to_its_stop(reading.book(opening), rng).pairs();
     if rng.once_in(4) {
         answers.truncate(rng.below(answers.len()));
     }

@@ -2,13 +2,14 @@
 //! then the model against the plain code on random cases.
 
 use compare::cases::{self, COUNT_ABOVE, HIGHEST};
-use compare::model::Book;
+use compare::model::{self, Book, OLD};
 use compare::rng::Rng;
 use compare::types::{Answer, Dispatcher, Opening, Report, Search, DRYERS, NOBODY, SLOTS};
 use compare::{dispatcher, ffi, plain};
 
 const M: Opening = Opening::new(1, 0, 100, 1);
 const R: Opening = Opening::new(2, 0, 100, 1);
+const HOUSE: Opening = Opening::new(0, 0, 100, 1);
 const SHORT: Opening = Opening::new(1, 0, 2, 1);
 const REFUSED: Opening = Opening::new(1, 5, 5, 1);
 
@@ -43,6 +44,8 @@ struct Calls {
     open: fn(&mut Dispatcher, u32, &Opening) -> Report,
     enter: fn(&mut Dispatcher, u32, Answer) -> Report,
     ask: fn(&Dispatcher, u32) -> Report,
+    /// On a search of the dispatcher.
+    change_over: fn(&mut Search) -> Report,
 }
 
 const MODEL: Calls = Calls {
@@ -51,6 +54,7 @@ const MODEL: Calls = Calls {
     open: dispatcher::open,
     enter: dispatcher::enter,
     ask: dispatcher::ask,
+    change_over: model::change_over,
 };
 
 const PLAIN: Calls = Calls {
@@ -59,6 +63,7 @@ const PLAIN: Calls = Calls {
     open: plain::dispatch_open,
     enter: plain::dispatch_enter,
     ask: plain::dispatch_ask,
+    change_over: plain::change_over,
 };
 
 const LIBRARY: Calls = Calls {
@@ -67,6 +72,7 @@ const LIBRARY: Calls = Calls {
     open: ffi::dispatch_open,
     enter: ffi::dispatch_enter,
     ask: ffi::dispatch_ask,
+    change_over: ffi::change_over,
 };
 
 const ALL: [Calls; 3] = [MODEL, PLAIN, LIBRARY];
@@ -294,6 +300,64 @@ fn shares_of_dryers() {
             assert_eq!((calls.enter)(&mut dispatcher, dryer, answer), report);
         }
         calls.refuses_opening(&mut dispatcher, 0, &refused, 17);
+    }
+}
+
+/// Request 2026-08: a dryer's search with the house default is asked by R.
+#[test]
+fn house_default_of_a_dryer() {
+    for calls in ALL {
+        let mut dispatcher = (calls.fresh)();
+        let report = (calls.open)(&mut dispatcher, 2, &HOUSE);
+        assert_eq!(report, Report::next(0, 0));
+        let answers = [
+            (FIRST, Report::next(100, 1)),
+            (Answer::new(100, 100), Report::next(33, 2)),
+            (Answer::new(33, -10), Report::next(40, 3)),
+        ];
+        for (answer, report) in answers {
+            assert_eq!((calls.enter)(&mut dispatcher, 2, answer), report);
+        }
+        calls.refuses(
+            &mut dispatcher,
+            2,
+            Answer::new(41, -2),
+            Report::refuse(6, 3),
+        );
+        assert_eq!(dispatcher.searches[2].opening, HOUSE);
+    }
+}
+
+/// The searches of an old dispatcher are changed over one by one, a dryer without one being refused;
+/// the mark, the counts and the turn stay, and the crews go on by M.
+#[test]
+fn old_searches_of_dryers() {
+    for calls in ALL {
+        let mut dispatcher = (calls.fresh)();
+        let old = OLD.book_of(HOUSE, &[-50, 100, -10, -2]).search();
+        let stopped = Book::of(SHORT, &[-1, 1]).search();
+        dispatcher.searches[1] = old;
+        dispatcher.searches[4] = stopped;
+        (dispatcher.last, dispatcher.counts) = (1, [7, 9, 0, 0, 2, u32::MAX]);
+        let mut expected = dispatcher;
+        expected.searches[1].opening = M;
+        let none = Report::refuse(3, 0);
+        let told = [
+            none,
+            Report::next(43, 4),
+            none,
+            none,
+            Report::stop(0, 2, 2, 2),
+            none,
+        ];
+        for (search, report) in dispatcher.searches.iter_mut().zip(told) {
+            assert_eq!((calls.change_over)(search), report);
+        }
+        assert_eq!(dispatcher, expected);
+        assert_eq!((calls.turn)(&dispatcher), 1);
+        assert_eq!((calls.ask)(&dispatcher, 1), Report::next(43, 4));
+        let report = (calls.enter)(&mut dispatcher, 1, Answer::new(43, 1));
+        assert_eq!(report, Report::stop(41, 43, 43, 5));
     }
 }
 

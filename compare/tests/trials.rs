@@ -2,7 +2,7 @@
 //! code and on the proved library; then the model against the plain code on random cases.
 
 use compare::cases::{self, COUNT_ABOVE, HIGHEST};
-use compare::model::{self, Book};
+use compare::model::{self, Book, OLD};
 use compare::plain;
 use compare::rng::Rng;
 use compare::sheets;
@@ -11,6 +11,7 @@ use compare::{beam, ffi};
 
 const M: Opening = Opening::new(1, 0, 100, 1);
 const R: Opening = Opening::new(2, 0, 100, 1);
+const HOUSE: Opening = Opening::new(0, 0, 100, 1);
 
 type Values = fn(&Opening, &[i32]) -> Report;
 type Sheet = fn(&[u8]) -> Report;
@@ -54,11 +55,16 @@ fn trials_of_r() {
     trial(R, &[-50, 100, -10, -5, -1, -1], "next,76,6");
 }
 
+/// Request 2026-08: the house default is R. Until then it was M, and these trials were M's.
 #[test]
-fn method_0_is_m() {
-    let house = Opening::new(0, 0, 100, 1);
-    trial(house, &[-50, 100, -10, -2, 1], "stop,41,43,43,5");
-    trial(house, &[-50, 100, -10, -2, -1], "next,71,5");
+fn method_0_is_r() {
+    trial(HOUSE, &[-50, 100], "next,33,2");
+    trial(HOUSE, &[-50, 100, -10], "next,40,3");
+    trial(HOUSE, &[-50, 100, -10, -5, -1], "next,53,5");
+    trial(HOUSE, &[-50, 100, -10, -5, -1, -1], "next,76,6");
+    trial(HOUSE, &[-50, 100, -10, -2], "next,41,4");
+    trial(HOUSE, &[-50, 100, -10, -2, 1], "stop,40,41,41,5");
+    trial(HOUSE, &[-50, 100, -10, -2, -1], "next,43,5");
 }
 
 #[test]
@@ -399,10 +405,17 @@ fn quotes() {
         let shared = Opening::new(2, 59_000, 60_000, 1).with_share(100);
         assert_eq!(quote(&shared), Quotation::quote(9, 47));
         assert_eq!(asked(0, 0, 2, 1), Quotation::quote(0, 2));
-        assert_eq!(asked(0, 0, 3, 1), Quotation::quote(1, 6));
+        assert_eq!(asked(1, 0, 3, 1), Quotation::quote(1, 6));
+        // Request 2026-08: with 0 it is 2 + 5t, which was 2 + 4t.
+        assert_eq!(asked(0, 0, 3, 1), Quotation::quote(1, 7));
+        assert_eq!(asked(0, 6_000, 12_000, 25), Quotation::quote(7, 37));
+        assert_eq!(asked(0, 60_000, 0, 1), Quotation::quote(15, 77));
         assert_eq!(asked(2, 0, 3, 1), Quotation::quote(1, 7));
         assert_eq!(asked(3, 0, 3, 1), Quotation::refuse(1));
     }
+    let old = |method| OLD.quote(&Opening::new(method, 0, 3, 1));
+    assert_eq!(old(0), Quotation::quote(1, 6));
+    assert_eq!((old(1), old(2)), (old(0), Quotation::quote(1, 7)));
 }
 
 #[test]
@@ -469,7 +482,9 @@ fn counts_at_the_limit() {
 /// The most answers that are quoted, by R over the whole range, are as many as there are slots.
 #[test]
 fn slots_for_the_widest() {
-    assert_eq!(model::quote(&cases::widest(2)).most as usize, SLOTS);
+    for method in [0, 2] {
+        assert_eq!(model::quote(&cases::widest(method)).most as usize, SLOTS);
+    }
 }
 
 /// By value the search that was passed stays, and after a refusal the one returned is equal to it.
@@ -526,11 +541,14 @@ fn clean_sheets() {
     clean_trial(&holding(M, &[0]), "1,0,100,1\r\n0,0\r\n");
 }
 
-/// The house default stays 0, though it is M.
+/// The house default stays 0, though it is R.
 #[test]
 fn clean_sheets_keep_the_method() {
-    let house = Opening::new(0, 0, 100, 1);
-    clean_trial(&holding(house, &[-50]), "0,0,100,1\r\n0,-50\r\n");
+    clean_trial(&holding(HOUSE, &[-50]), "0,0,100,1\r\n0,-50\r\n");
+    clean_trial(
+        &holding(HOUSE, &[-50, 100, -10, -5]),
+        "0,0,100,1\r\n0,-50\r\n100,100\r\n33,-10\r\n40,-5\r\n",
+    );
     clean_trial(&holding(R, &[-50]), "2,0,100,1\r\n0,-50\r\n");
 }
 
@@ -615,6 +633,192 @@ fn sheets_cleaned() {
     assert_eq!(cleaned("1,0,100,1,101"), "refuse,17,1\r\n");
 }
 
+type ChangeOver = fn(&mut Search) -> Report;
+
+const CHANGERS: [ChangeOver; 3] = [model::change_over, plain::change_over, ffi::change_over];
+
+/// The search that holds these values, whichever reading accepts them, with other numbers than 0 in
+/// its fresh slots.
+fn held_with_junk(opening: Opening, values: &[i32]) -> Search {
+    let mut search = Search {
+        opening,
+        count: values.len() as u32,
+        slots: [i32::MIN; SLOTS],
+    };
+    search.slots[..values.len()].copy_from_slice(values);
+    search
+}
+
+/// Tries an accepted old search on all three: what is told of it, the method that it has then, and
+/// that nothing else is altered. Its new sheet is reported on in the same way.
+fn changed_trial(search: &Search, report: &str, method: i32, sheet: &str) {
+    let opening = Opening {
+        method,
+        ..search.opening
+    };
+    let new = Search { opening, ..*search };
+    for change_over in CHANGERS {
+        let mut changed = *search;
+        assert_eq!(change_over(&mut changed).to_string(), report);
+        assert_eq!(changed, new);
+        assert_eq!(change_over(&mut changed).to_string(), report);
+        assert_eq!(changed, new);
+    }
+    for ask in [model::ask, plain::ask, ffi::ask] {
+        assert_eq!(ask(&new).to_string(), report);
+    }
+    clean_trial(&new, sheet);
+    let old_sheet = OLD.clean(search).expect("the old reading accepts it");
+    assert_eq!(OLD.sheet(&old_sheet).to_string(), report);
+    assert_eq!(model::old_default(&old_sheet), sheet.as_bytes());
+}
+
+/// Old searches with 0, asked by M: what was told of each, and what would be today if it were not
+/// changed over.
+#[test]
+fn old_searches_changed_over() {
+    let asked_today = |search: &Search, report: &str| {
+        for ask in [model::ask, plain::ask, ffi::ask] {
+            assert_eq!(ask(search).to_string(), report);
+        }
+    };
+    // Another stop: by R the points after 33 are 40 and 41.
+    let stopped = held_with_junk(HOUSE, &[-50, 100, -10, -2, 1]);
+    let sheet = "1,0,100,1\r\n0,-50\r\n100,100\r\n33,-10\r\n41,-2\r\n43,1\r\n";
+    changed_trial(&stopped, "stop,41,43,43,5", 1, sheet);
+    asked_today(&stopped, "stop,40,41,41,5");
+    // Another setting.
+    let on_its_way = held_with_junk(HOUSE, &[-50, 100, -10, -2]);
+    let sheet = "1,0,100,1\r\n0,-50\r\n100,100\r\n33,-10\r\n41,-2\r\n";
+    changed_trial(&on_its_way, "next,43,4", 1, sheet);
+    asked_today(&on_its_way, "next,41,4");
+    // A refusal: M has 5, 4, 1 and 2 after 0; by R the fourth point is 2, and the bracket of 2 and 4
+    // stops the search.
+    let short = Opening::new(0, 0, 5, 1);
+    let longer_by_m = held_with_junk(short, &[-4, 1, 5, -3, 1]);
+    let sheet = "1,0,5,1\r\n0,-4\r\n5,1\r\n4,5\r\n1,-3\r\n2,1\r\n";
+    changed_trial(&longer_by_m, "stop,1,2,2,5", 1, sheet);
+    asked_today(&longer_by_m, "refuse,5,4");
+    // None yet, and with a share.
+    changed_trial(&held_with_junk(HOUSE, &[]), "next,0,0", 1, "1,0,100,1\r\n");
+    let shared = held_with_junk(HOUSE.with_share(7), &[-50]);
+    changed_trial(&shared, "next,100,1", 1, "1,0,100,1,7\r\n0,-50\r\n");
+}
+
+/// Methods 1 and 2 are read as before, and kept.
+#[test]
+fn old_searches_of_m_and_r() {
+    let values = [-50, 100, -10];
+    let sheet = "0,100,1\r\n0,-50\r\n100,100\r\n33,-10\r\n";
+    let by_m = held_with_junk(M, &values);
+    changed_trial(&by_m, "next,41,3", 1, &format!("1,{sheet}"));
+    let by_r = held_with_junk(R, &values);
+    changed_trial(&by_r, "next,40,3", 2, &format!("2,{sheet}"));
+}
+
+/// An old search that is refused stays as it is, whatever today's reading makes of it.
+#[test]
+fn old_searches_refused() {
+    let short = Opening::new(0, 0, 5, 1);
+    // By M the bracket of 0 and 2 stops the search after four; by R the points are 5, 4, 3 and 2.
+    let longer_by_r = held_with_junk(short, &[-9, 3, 2, 1, -1]);
+    for ask in [model::ask, plain::ask, ffi::ask] {
+        assert_eq!(ask(&longer_by_r), Report::stop(2, 3, 2, 5));
+    }
+    let counting = |count| {
+        let mut search = longer_by_r;
+        search.count = count;
+        search
+    };
+    let opened = |opening| held_with_junk(opening, &[-1]);
+    let refused = [
+        (longer_by_r, Report::refuse(5, 4)),
+        (counting(SLOTS as u32), Report::refuse(5, 4)),
+        (counting(COUNT_ABOVE), Report::refuse(9, 0)),
+        (counting(u32::MAX), Report::refuse(9, 0)),
+        (opened(Opening::new(3, 0, 5, 1)), Report::refuse(1, 0)),
+        (opened(Opening::new(-1, 0, 5, 1)), Report::refuse(1, 0)),
+        (opened(Opening::new(0, 0, 60_001, 1)), Report::refuse(2, 0)),
+        (opened(Opening::new(0, 5, 5, 1)), Report::refuse(3, 0)),
+        (opened(Opening::new(0, 0, 5, 0)), Report::refuse(4, 0)),
+        (opened(short.with_share(101)), Report::refuse(17, 0)),
+        (held_with_junk(short, &[-1, 10_001]), Report::refuse(7, 1)),
+        (held_with_junk(short, &[1, 1]), Report::refuse(8, 1)),
+    ];
+    for (search, refusal) in refused {
+        for change_over in CHANGERS {
+            let mut changed = search;
+            assert_eq!(change_over(&mut changed), refusal, "{search:?}");
+            assert_eq!(changed, search);
+        }
+    }
+}
+
+/// Tries an old sheet: today's report of it, what the program `old_default` writes, on the model, and
+/// the report of that.
+fn old_sheet_trial(old: &str, today: &str, new: &str, report: &str) {
+    sheet_trial(old.as_bytes(), today);
+    let written = String::from_utf8(model::old_default(old.as_bytes())).unwrap();
+    assert_eq!(written, new);
+    assert_eq!(OLD.sheet(old.as_bytes()).to_string(), report);
+    if report.starts_with("refuse") {
+        assert_eq!(new, format!("{report}\r\n"));
+    } else {
+        sheet_trial(new.as_bytes(), report);
+        assert_eq!(model::old_default(new.as_bytes()), new.as_bytes());
+    }
+}
+
+/// Document 01's sheet with the house default, as it was asked by M, and what becomes of it.
+#[test]
+fn old_sheets_made_new() {
+    let by_m = "0,100,1\r\n0,-50\r\n100,100\r\n33,-10\r\n41,-2\r\n";
+    let old = |method: &str, last: &str| format!("{method},{by_m}{last}\r\n");
+    let report = "stop,41,43,43,5";
+    let new = old("1", "43,1");
+    for zero in ["0", "-0", "00000", "\"-00\""] {
+        old_sheet_trial(&old(zero, "43,1"), "refuse,6,5", &new, report);
+    }
+    old_sheet_trial(&new, report, &new, report);
+    let odd = "\"0\",00,\"00100\",01,-0\r\n-0,\"-050\"\r\n100,0100";
+    let clean = "1,0,100,1\r\n0,-50\r\n100,100\r\n";
+    old_sheet_trial(odd, "next,33,2", clean, "next,33,2");
+    // Each reading refuses this one at another record.
+    let wrong = old("0", "42,1");
+    old_sheet_trial(&wrong, "refuse,6,5", "refuse,6,6\r\n", "refuse,6,6");
+    // By R with 0, as sheets are asked today: none of the old ones was. With 2 it is kept.
+    let by_r = "0,100,1\r\n0,-50\r\n100,100\r\n33,-10\r\n40,-5\r\n";
+    let (house, two) = (format!("0,{by_r}"), format!("2,{by_r}"));
+    let today = model::sheet(two.as_bytes()).to_string();
+    old_sheet_trial(&house, &today, "refuse,6,5\r\n", "refuse,6,5");
+    old_sheet_trial(&two, &today, &two, &today);
+}
+
+/// A refused sheet makes the program write its refusal, in the order of the checks.
+#[test]
+fn old_sheets_refused() {
+    let refused = [
+        ("", "refuse,12,1"),
+        ("0,0,100,1\n", "refuse,12,1"),
+        ("000000,0,100,1\r\n", "refuse,12,1"),
+        ("3,0,100,1\r\n", "refuse,1,1"),
+        ("0,0,60001,1\r\n", "refuse,2,1"),
+        ("0,7,7,1\r\n", "refuse,3,1"),
+        ("0,0,100,5001\r\n", "refuse,4,1"),
+        ("0,0,100,1,101\r\n", "refuse,17,1"),
+        ("0,0,100,1\r\n0,10001\r\n", "refuse,7,2"),
+        ("0,0,100,1\r\n0,5\r\n100,7\r\n", "refuse,8,3"),
+        ("0,0,2,1\r\n0,-1\r\n2,1\r\n1,1\r\n", "refuse,5,4"),
+    ];
+    for (old, report) in refused {
+        old_sheet_trial(old, report, &format!("{report}\r\n"), report);
+    }
+    let records = "0,0,100,1\r\n".to_owned() + &"0,0\r\n".repeat(78);
+    old_sheet_trial(&records, "refuse,11,79", "refuse,11,79\r\n", "refuse,11,79");
+    let long = "0".repeat(4_097);
+    old_sheet_trial(&long, "refuse,10,0", "refuse,10,0\r\n", "refuse,10,0");
+}
+
 #[test]
 fn version_of_the_interface() {
     assert_eq!(ffi::version(), ffi::VERSION);
@@ -688,6 +892,18 @@ fn model_and_plain_on_searches() {
         );
         assert_eq!(model, plain, "{one:?}");
         assert_eq!(one, other);
+    }
+}
+
+#[test]
+fn model_and_plain_on_old_searches() {
+    let mut rng = Rng::new(10);
+    for _ in 0..10_000 {
+        let opening = cases::old_opening(&mut rng);
+        let mut one = cases::any_search_of(opening, OLD, &mut rng);
+        let mut other = one;
+        let (model, plain) = (model::change_over(&mut one), plain::change_over(&mut other));
+        assert_eq!((model, one), (plain, other));
     }
 }
 

@@ -1,13 +1,14 @@
-//! The programs clean and zeroin beside the model: each is run on texts of every kind, from a
-//! fixed seed, and what it writes is compared. It ends with the number of runs and exit status 0,
-//! or with the first mismatch and exit status 1.
+//! The programs clean, zeroin and old_default beside the model: each is run on texts of every kind,
+//! from a fixed seed, and what it writes is compared. It ends with the number of runs and exit status
+//! 0, or with the first mismatch and exit status 1.
 
 #![forbid(unsafe_code)]
 
 use compare::checks::{agree, Checked};
-use compare::model::{self, Book};
+use compare::model::{self, Book, Reading, OLD, TODAY};
 use compare::rng::Rng;
 use compare::sheets::{self, Text};
+use compare::types::{Opening, Report};
 use compare::{beam, cases};
 use std::io::{ErrorKind, Write};
 use std::path::{Path, PathBuf};
@@ -15,6 +16,7 @@ use std::process::{Command, ExitCode, Output, Stdio};
 
 const SEED: u64 = 1975;
 const TEXTS: usize = 1_500;
+const OLD_TEXTS: usize = 600;
 
 /// How many of the longest orders that the beam finds are tried, by M and by R each.
 const ORDERS: usize = 10;
@@ -32,23 +34,85 @@ fn main() -> ExitCode {
     }
 }
 
-/// Every text on both programs. What was tried is told in words.
+/// Every text on the three programs. What was tried is told in words.
 fn programs(rng: &mut Rng) -> Result<String, String> {
-    let mut pair = Programs {
+    let mut three = Programs {
         clean: built("clean")?,
         zeroin: built("zeroin")?,
+        old_default: built("old_default")?,
         runs: 0,
     };
-    let texts = texts(rng);
+    let texts = [texts(rng), old_texts(rng)].concat();
     let mut accepted = 0;
+    let mut old = Old::default();
     for text in &texts {
-        pair.text_agrees(text)?;
+        three.text_agrees(text)?;
         accepted += usize::from(model::read(text).is_ok());
+        old.count(text);
     }
-    let (runs, all) = (pair.runs, texts.len());
+    let (runs, all) = (three.runs, texts.len());
+    let old = old.told()?;
     Ok(format!(
-        "{runs} runs of clean and zeroin on {all} texts, {accepted} of them sheets to clean"
+        "{runs} runs of clean, zeroin and old_default on {all} texts, {accepted} of them sheets to \
+         clean; {old}"
     ))
+}
+
+/// How many texts the old reading and today's tell different things of.
+#[derive(Default)]
+struct Old {
+    /// Old sheets with method 0.
+    with_0: usize,
+    /// Of those, the ones that today's reading refuses, and those that it sends to another setting.
+    refused_today: usize,
+    sent_elsewhere: usize,
+    /// Texts that both refuse, each with another record.
+    refused_otherwise: usize,
+    /// Texts that only the old reading refuses.
+    refused_then: usize,
+}
+
+impl Old {
+    fn count(&mut self, text: &[u8]) {
+        let (old, today) = (OLD.sheet(text), TODAY.sheet(text));
+        let refused = |report: &Report| report.kind == Report::REFUSED;
+        let differ = usize::from(old != today);
+        let method = OLD.read(text).map(|book| book.opening().method);
+        self.with_0 += usize::from(method == Ok(0));
+        match (refused(&old), refused(&today)) {
+            (false, true) => self.refused_today += differ,
+            (false, false) => self.sent_elsewhere += differ,
+            (true, true) => self.refused_otherwise += differ,
+            (true, false) => self.refused_then += differ,
+        }
+    }
+
+    /// In words. It is a mistake if one of the numbers is 0.
+    fn told(&self) -> Result<String, String> {
+        let Old {
+            with_0,
+            refused_today,
+            sent_elsewhere,
+            refused_otherwise,
+            refused_then,
+        } = self;
+        let words = format!(
+            "{with_0} are old sheets with method 0, of which today {refused_today} are refused \
+             and {sent_elsewhere} sent to another setting; {refused_otherwise} are refused with \
+             another record than today, and {refused_then} are refused as old sheets only"
+        );
+        let all = [
+            with_0,
+            refused_today,
+            sent_elsewhere,
+            refused_otherwise,
+            refused_then,
+        ];
+        match all.contains(&&0) {
+            true => Err(format!("not every kind of text was tried: {words}")),
+            false => Ok(words),
+        }
+    }
 }
 
 /// Texts of every kind: whole and damaged, the spellings of books on their way, clean sheets of
@@ -57,9 +121,10 @@ fn texts(rng: &mut Rng) -> Vec<Vec<u8>> {
     let mut texts = Vec::new();
     for _ in 0..TEXTS / 3 {
         texts.push(sheets::any_text(rng));
-        let book = on_its_way(rng);
+        let book = on_its_way(cases::accepted_opening(rng), TODAY, rng);
         texts.push(sheets::write_spelt(book.opening(), &book.pairs(), rng));
-        texts.push(clean_sheet(&on_its_way(rng)));
+        let book = on_its_way(cases::accepted_opening(rng), TODAY, rng);
+        texts.push(clean_sheet(&book));
     }
     for method in [1, 2] {
         let opening = cases::widest(method);
@@ -73,11 +138,47 @@ fn texts(rng: &mut Rng) -> Vec<Vec<u8>> {
     texts
 }
 
-/// The book of an accepted search after some of its answers, or at its stop.
-fn on_its_way(rng: &mut Rng) -> Book {
-    let opening = cases::accepted_opening(rng);
-    let values = cases::answered(opening, rng).values();
-    Book::of(opening, &values[..rng.below(values.len() + 1)])
+/// Document 01's sheet by M, its wrong point, and one by R, all with method 0; the old reading and
+/// today's refuse the second at different records.
+const WORKED: [&[u8]; 3] = [
+    b"0,0,100,1\r\n0,-50\r\n100,100\r\n33,-10\r\n41,-2\r\n43,1\r\n",
+    b"0,0,100,1\r\n0,-50\r\n100,100\r\n33,-10\r\n41,-2\r\n42,1\r\n",
+    b"0,0,100,1\r\n0,-50\r\n100,100\r\n33,-10\r\n40,-5\r\n",
+];
+
+/// Old texts, nearly all with method 0, asked by M and by R: the spellings of books on their way,
+/// whole and damaged ones, and long ones by M.
+fn old_texts(rng: &mut Rng) -> Vec<Vec<u8>> {
+    let mut texts: Vec<Vec<u8>> = WORKED.iter().map(|text| text.to_vec()).collect();
+    for _ in 0..OLD_TEXTS / 6 {
+        for reading in [OLD, OLD, TODAY] {
+            let opening = with_0(&cases::accepted_opening(rng));
+            let book = on_its_way(opening, reading, rng);
+            texts.push(sheets::write_spelt(&opening, &book.pairs(), rng));
+            texts.push(sheets::any_text_of(cases::old_opening(rng), reading, rng));
+        }
+    }
+    let opening = cases::widest(0);
+    let orders = beam::longest(&cases::widest(1), beam::WIDE, rng);
+    for order in orders.iter().take(ORDERS) {
+        let pairs = OLD.book_of(opening, order).pairs();
+        texts.push(sheets::write_spelt(&opening, &pairs, rng));
+    }
+    texts
+}
+
+fn with_0(opening: &Opening) -> Opening {
+    Opening {
+        method: 0,
+        ..*opening
+    }
+}
+
+/// The book of an accepted search after some of its answers, or at its stop, asked by this reading of
+/// its method.
+fn on_its_way(opening: Opening, reading: Reading, rng: &mut Rng) -> Book {
+    let values = cases::to_its_stop(reading.book(opening), rng).values();
+    reading.book_of(opening, &values[..rng.below(values.len() + 1)])
 }
 
 fn clean_sheet(book: &Book) -> Vec<u8> {
@@ -96,17 +197,19 @@ fn built(name: &str) -> Result<PathBuf, String> {
     }
 }
 
-/// The two programs, and how often they were run.
+/// The three programs, and how often they were run.
 struct Programs {
     clean: PathBuf,
     zeroin: PathBuf,
+    old_default: PathBuf,
     runs: u64,
 }
 
 impl Programs {
-    /// Both programs write what the model says. Of an accepted sheet the clean one is clean
-    /// already, and zeroin says the same of it.
+    /// The programs write what the model says. Of an accepted sheet the clean one is clean already,
+    /// and zeroin says the same of it.
     fn text_agrees(&mut self, text: &[u8]) -> Checked {
+        self.old_text_agrees(text)?;
         let clean = self.cleaned(text)?;
         same("clean", text, &model::clean_text(text), &clean)?;
         let record = self.record(text)?;
@@ -117,6 +220,27 @@ impl Programs {
         }
         same("clean", &clean, &clean, &self.cleaned(&clean)?)?;
         same("zeroin", &clean, &record, &self.record(&clean)?)
+    }
+
+    /// old_default writes what the model says. Of an accepted old sheet with method 0 the new one
+    /// makes zeroin say what the old reading did, and neither clean nor old_default alters it.
+    fn old_text_agrees(&mut self, text: &[u8]) -> Checked {
+        let new = self.made_new(text)?;
+        same("old_default", text, &model::old_default(text), &new)?;
+        match OLD.read(text) {
+            Ok(book) if book.opening().method == 0 => {
+                let report = format!("{}\r\n", book.report());
+                same("zeroin", &new, report.as_bytes(), &self.record(&new)?)?;
+                same("clean", &new, &new, &self.cleaned(&new)?)?;
+                same("old_default", &new, &new, &self.made_new(&new)?)
+            }
+            _ => Ok(()),
+        }
+    }
+
+    fn made_new(&mut self, text: &[u8]) -> Result<Vec<u8>, String> {
+        self.runs += 1;
+        run(&self.old_default, text)
     }
 
     fn cleaned(&mut self, text: &[u8]) -> Result<Vec<u8>, String> {

@@ -3,5 +3,6 @@ pub mod Walk
 pub mod Contracts
 pub mod Whole
 pub mod WholeTwo
+pub mod WholeAlone
 pub mod Looked
 pub mod LookedBeside

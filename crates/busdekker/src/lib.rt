@@ -6,6 +6,7 @@ ghost use Rattle.rules.specs.Search.{reportOf, quoteOf};
 ghost use Rattle.held.specs.Held.{reopenOf, heldReport, enterOf};
 ghost use Rattle.outcomes.specs.Sheet.{sheetOf};
 ghost use Rattle.clean_sheets.specs.Clean.{writtenOf, bufferOf, writtenRowOf};
+ghost use Rattle.changeover.specs.Changeover.{changedSearch};
 ghost use Rattle.numbered.specs.Numbered.{answeredOf};
 ghost use Rattle.dispatching.specs.Dispatching.{freshDispatcher, turnOf, openingAt, answerAt, dryerReport};
 ghost use Rattle.dispatch_numbers.specs.Numbers.{turnNumber};
@@ -24,7 +25,7 @@ use rules::Row;
 pub extern "C" fn busdekker_version() -> u32
     ensures { λ r. ⌜ r ≡ version ⌝ }
 {
-    7
+    8
 }
 
 // t and the most answers that an opening may need.
@@ -108,6 +109,16 @@ pub extern "C" fn busdekker_write(search: &Search, out: &mut [u8]) -> WrittenRow
         × (now (out .exit) ≡ bufferOf (now (search .entry)) (now (out .entry))) ⌝ }
 {
     numbered::step_write(*search, out)
+}
+
+// Changes the host's search over, which was asked with M for the house default, or refuses that.
+#[no_mangle]
+pub extern "C" fn busdekker_change_over(search: &mut Search) -> Row
+    ensures { λ r. ⌜ (r ≡ rowOf (changedSearch (now (search .entry)) .report)) × (now (search .exit) ≡ changedSearch (now (search .entry)) .search) ⌝ }
+{
+    let e = numbered::step_change(*search);
+    *search = e.search;
+    e.report
 }
 
 // A fresh dispatcher: no search, none served and every count 0.

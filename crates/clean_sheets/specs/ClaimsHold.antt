@@ -52,13 +52,13 @@ module _ (o : Opening) (vs : List ℤ) (fine : isRefused (progressOf o vs) ≡ f
   abbrev journal : List Answer
   journal = withPoints o (beginOf o) vs
 
-  accepted : Accepted o
+  pub accepted : Accepted o
   accepted = accepted-of o vs fine
 
-  kept : Kept o journal
+  pub kept : Kept o journal
   kept = kept-values o vs fine
 
-  fits : length journal ≤ slots
+  pub fits : length journal ≤ slots
   fits = journal-fits o accepted journal kept
 
   is-clean : CleanText (sheetText o journal) o journal
@@ -159,7 +159,7 @@ module _ (text : List ℕ) (taken : isRefusal (sheetOf text .report) ≡ false) 
     outcome-taken = ap (λ (x : Entered). isRefusal (x .report)) (sheet-read text e (sym r) refl) ∙ taken
 
     -- the opening is accepted, and so are the answers
-    passed : (openingRefusal o ≡ 0) × (isRefused (leadsTo e) ≡ false)
+    pub passed : (openingRefusal o ≡ 0) × (isRefused (leadsTo e) ≡ false)
     unfolding outcomeOf
     passed = go (eqb (openingRefusal o) 0) refl outcome-taken
       where
@@ -194,6 +194,9 @@ module _ (text : List ℕ) (taken : isRefusal (sheetOf text .report) ≡ false) 
 
     outcome : sheetOf text ≡ record { report = journalReport o (journal o vs fine); search = holding o (journal o vs fine) }
     outcome = reads o vs fine text (subst (ReadAs text o) are r)
+
+    pub opening-held : sheetOf text .search .opening ≡ o
+    opening-held = ap (λ (x : Entered). x .search .opening) outcome
 
     rewritten-is : rewrittenOf text ≡ sheetText o (journal o vs fine)
     unfolding cleanOf

@@ -1,7 +1,7 @@
--- The laws of a sheet cleaned into a buffer: what is answered for a refused sheet, and for an accepted one by what the writer tells.
+-- The laws of a sheet cleaned into a buffer: what is answered for a refused outcome, and for an accepted one by what the writer tells.
 -- Assumes nothing.
 use Prim.Native.Nat.{ℕ, _≤_}
-use mathlib.Core.Path.{_≡_, refl, sym, ap, _∙_}
+use mathlib.Core.Path.{_≡_, refl, sym, ap, subst, _∙_}
 use mathlib.Core.Bool.{Bool, true, false, cond}
 use mathlib.Core.List.{List}
 use native.Mathlib.Omega.{arith}
@@ -17,7 +17,7 @@ use Rattle.held.specs.Held.{heldReport}
 use Rattle.printing.specs.Printed.{recordOf, longestRecord, placed, placedLength}
 use Rattle.outcomes.specs.Sheet.{sheetOf}
 use Rattle.clean_sheets.specs.declared.Written.{Written}
-use Rattle.clean_sheets.specs.Clean.{cleanOf, longestSheet, bufferTooShort, wholeBuffer, fittedIn, writtenAfter, writtenOf, bufferOf, cleanedOf, rewrittenOf}
+use Rattle.clean_sheets.specs.Clean.{cleanOf, longestSheet, bufferTooShort, wholeBuffer, fittedIn, writtenAfter, writtenOf, bufferOf, cleanedOf}
 use Rattle.clean_sheets.specs.ClaimsHold.{accepted-cleaned, search-accepted, rewritten}
 
 -- the length that is told, 0 for a refusal
@@ -49,36 +49,61 @@ written-buffer : (s : Search) (buffer : List ℕ) → isRefusal (heldReport s) �
 unfolding bufferOf
 written-buffer s buffer h = simp h
 
--- ---- a text cleaned into what was `before` and is `after`, with n bytes
+-- ---- an outcome put into a buffer: the record of a refusal, or what the writer tells and leaves of the search
 
-pub record Cleans (text before : List ℕ) (n : ℕ) (after : List ℕ) : Type 0 where
-  pub long : n ≡ placedLength (rewrittenOf text) before
-  pub bytes : after ≡ placed (rewrittenOf text) before
-  pub short : length (rewrittenOf text) ≤ longestSheet
+abbrev pub outcomeLength : Entered → List ℕ → ℕ
+outcomeLength e before = cond (isRefusal (e .report)) (placedLength (recordOf (e .report)) before) (lengthTold (writtenOf (e .search) before))
+
+abbrev pub outcomeLeft : Entered → List ℕ → List ℕ
+outcomeLeft e before = cond (isRefusal (e .report)) (placed (recordOf (e .report)) before) (bufferOf (e .search) before)
+
+-- ---- an outcome cleaned into what was `before` and is `after`, with n bytes
+
+pub record Cleans (e : Entered) (before : List ℕ) (n : ℕ) (after : List ℕ) : Type 0 where
+  pub long : n ≡ placedLength (cleanedOf e) before
+  pub bytes : after ≡ placed (cleanedOf e) before
+  pub short : length (cleanedOf e) ≤ longestSheet
 
 refused-cleaned : (e : Entered) → isRefusal (e .report) ≡ true → cleanedOf e ≡ recordOf (e .report)
 unfolding cleanedOf
 refused-cleaned e h = simp h
 
-module _ (text before : List ℕ) (n : ℕ) (after : List ℕ) (e : Entered) (is : e ≡ sheetOf text) where
-  pub cleans-refused : isRefusal (e .report) ≡ true → n ≡ placedLength (recordOf (e .report)) before → after ≡ placed (recordOf (e .report)) before
-      → length (recordOf (e .report)) ≤ longestRecord → Cleans text before n after
-  cleans-refused h long bytes short =
-      let same : recordOf (e .report) ≡ rewrittenOf text = sym (refused-cleaned e h) ∙ ap cleanedOf is in
-      record {
-        long = long ∙ ap (λ (t : List ℕ). placedLength t before) same;
-        bytes = bytes ∙ ap (λ (t : List ℕ). placed t before) same;
-        short = omega (arith, ap length same);
-      }
+-- what an accepted outcome has, as that of a text
+pub record Sound (e : Entered) : Type 0 where
+  pub search : isRefusal (heldReport (e .search)) ≡ false
+  pub short : length (cleanedOf e) ≤ longestSheet
 
-  pub cleans-accepted : isRefusal (e .report) ≡ false → n ≡ lengthTold (writtenOf (e .search) before) → after ≡ bufferOf (e .search) before
-      → Cleans text before n after
-  cleans-accepted h long bytes =
-      let taken : isRefusal (sheetOf text .report) ≡ false = ap (λ (x : Entered). isRefusal (x .report)) (sym is) ∙ h in
-      let held : isRefusal (heldReport (e .search)) ≡ false = ap (λ (x : Entered). isRefusal (heldReport (x .search))) is ∙ search-accepted text taken in
-      let same : cleanOf (e .search) ≡ rewrittenOf text = sym (accepted-cleaned e h) ∙ ap cleanedOf is in
-      record {
-        long = long ∙ written-length (e .search) before held ∙ ap (λ (t : List ℕ). placedLength t before) same;
-        bytes = bytes ∙ written-buffer (e .search) before held ∙ ap (λ (t : List ℕ). placed t before) same;
-        short = rewritten text taken .short;
-      }
+module _ (e : Entered) (before : List ℕ) where
+  refused-length : isRefusal (e .report) ≡ true → outcomeLength e before ≡ placedLength (cleanedOf e) before
+  refused-length h = rw (refused-cleaned e h) (simp h)
+
+  refused-left : isRefusal (e .report) ≡ true → outcomeLeft e before ≡ placed (cleanedOf e) before
+  refused-left h = rw (refused-cleaned e h) (simp h)
+
+  accepted-length : isRefusal (e .report) ≡ false → Sound e → outcomeLength e before ≡ placedLength (cleanedOf e) before
+  accepted-length h k = rw (accepted-cleaned e h) (simp h (written-length (e .search) before (k .search)))
+
+  accepted-left : isRefusal (e .report) ≡ false → Sound e → outcomeLeft e before ≡ placed (cleanedOf e) before
+  accepted-left h k = rw (accepted-cleaned e h) (simp h (written-buffer (e .search) before (k .search)))
+
+  cleans-own : (isRefusal (e .report) ≡ false → Sound e) → (isRefusal (e .report) ≡ true → length (recordOf (e .report)) ≤ longestRecord) → (n : ℕ)
+      → n ≡ outcomeLength e before → (after : List ℕ) → after ≡ outcomeLeft e before → Cleans e before n after
+  cleans-own sound brief n long after bytes = go (isRefusal (e .report)) refl
+    where
+      go : (b : Bool) → isRefusal (e .report) ≡ b → Cleans e before n after
+      go true h =
+          record { long = long ∙ refused-length h; bytes = bytes ∙ refused-left h; short = omega (arith, ap length (refused-cleaned e h), brief h) }
+      go false h =
+          record { long = long ∙ accepted-length h (sound h); bytes = bytes ∙ accepted-left h (sound h); short = sound h .short }
+
+-- an outcome e that is put into a buffer, and is known to be u
+pub cleans : (e u : Entered) → e ≡ u → (isRefusal (u .report) ≡ false → Sound u) → (before : List ℕ) (n : ℕ) (after : List ℕ)
+    → n ≡ outcomeLength e before → after ≡ outcomeLeft e before → (isRefusal (e .report) ≡ true → length (recordOf (e .report)) ≤ longestRecord)
+    → Cleans u before n after
+cleans e u is sound before n after long bytes brief =
+    let own : isRefusal (e .report) ≡ false → Sound e = λ h. subst Sound (sym is) (sound (ap (λ (x : Entered). isRefusal (x .report)) (sym is) ∙ h)) in
+    subst (λ (x : Entered). Cleans x before n after) is (cleans-own e before own brief n long after bytes)
+
+-- the outcome of a text is sound
+pub sheet-sound : (text : List ℕ) → isRefusal (sheetOf text .report) ≡ false → Sound (sheetOf text)
+sheet-sound text taken = record { search = search-accepted text taken; short = rewritten text taken .short }

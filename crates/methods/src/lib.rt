@@ -5,12 +5,12 @@ use rules::Method;
 use rules::Opening;
 use rules::Step;
 
-// The method that an opening's number stands for: 0 is the house default, M.
+// The method that an opening's number stands for: 0 is the house default, R.
 pub fn method_of(o: Opening) -> Method
     ensures { λ r. ⌜ r ≡ methodOf o ⌝ }
 {
     if comparisons::equal(o.method, 0) {
-        return Method::M;
+        return Method::R;
     }
     if comparisons::equal(o.method, 1) {
         Method::M

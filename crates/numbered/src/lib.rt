@@ -5,6 +5,7 @@ ghost use Rattle.held.specs.Held.{reopenOf, heldReport};
 ghost use Rattle.verdicts.specs.Judged.{verdictOf};
 ghost use Rattle.numbered.specs.Numbered.{answeredOf};
 ghost use Rattle.clean_sheets.specs.Clean.{writtenOf, bufferOf, writtenRowOf};
+ghost use Rattle.changeover.specs.Changeover.{changedSearch};
 ghost use Rattle.numbered.specs.Inner.{numberedOf};
 use clean_sheets::Written;
 use clean_sheets::WrittenRow;
@@ -59,6 +60,19 @@ pub fn step_ask(search: Search) -> Row
     ensures { λ r. ⌜ r ≡ rowOf (heldReport search) ⌝ }
 {
     rows::row_of(search.report())
+}
+
+// A search that was asked with M for the house default, changed over.
+pub fn step_change(search: Search) -> Answered
+    ensures { λ r. ⌜ r ≡ answeredOf (changedSearch search) ⌝ }
+{
+    let e = changing::change_search(search);
+    let report = e.report;
+    let changed = e.search;
+    Answered {
+        report: rows::row_of(report),
+        search: changed,
+    }
 }
 
 // Writes the clean sheet of a search into a buffer, or refuses that.

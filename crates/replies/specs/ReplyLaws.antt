@@ -7,11 +7,11 @@ use mathlib.Core.List.{List, [], _++_}
 use native.Mathlib.Omega.{arith}
 use borrow.Author.Tests.{lt-ltb}
 use lib.ListN.{length, length-append}
-use Rattle.held.specs.declared.Entered.{Entered}
 use Rattle.forms.specs.Entries.{longestText, wholeText, tooLong, refused, entriesOf}
 use Rattle.printing.specs.Printed.{placed, placedLength}
 use Rattle.printing.specs.PrintedLaws.{written-within}
 use Rattle.outcomes.specs.Sheet.{sheetOf}
+use Rattle.changeover.specs.Changeover.{sheetUnder}
 use Rattle.input.specs.declared.Filled.{Filled}
 use Rattle.replies.specs.declared.Reply.{Reply}
 use Rattle.replies.specs.Reply.{replyOf, Replied, Answers}
@@ -20,18 +20,20 @@ entries-long : (text : List ℕ) → longestText < length text → entriesOf tex
 unfolding entriesOf
 entries-long text h = rw (lt-ltb longestText (length text) h)
 
--- two texts that are too long are one sheet
-sheet-long : (s t : List ℕ) → longestText < length s → longestText < length t → sheetOf s ≡ sheetOf t
-unfolding sheetOf
-sheet-long s t h k = rw (entries-long s h, entries-long t k)
+-- two texts that are too long have one reply
+reply-long : (reply : Reply) (s t : List ℕ) → longestText < length s → longestText < length t → replyOf reply s ≡ replyOf reply t
+unfolding sheetOf sheetUnder
+reply-long Reply.Record s t h k = rw (entries-long s h, entries-long t k)
+reply-long Reply.CleanSheet s t h k = rw (entries-long s h, entries-long t k)
+reply-long Reply.ChangedSheet s t h k = rw (entries-long s h, entries-long t k)
 
 pub goes-on : {reply : Reply} {buffer before : List ℕ} {n : ℕ} {after : List ℕ} → longestText < length buffer → Replied reply buffer before n after
     → (rest : List ℕ) → Replied reply (buffer ++ rest) before n after
 goes-on {reply} {buffer} {before} h r rest =
-    let same = sheet-long buffer (buffer ++ rest) h (omega (arith, length-append buffer rest)) in
+    let same = reply-long reply buffer (buffer ++ rest) h (omega (arith, length-append buffer rest)) in
     record {
-      long = r .long ∙ ap (λ (e : Entered). placedLength (replyOf reply e) before) same;
-      text = r .text ∙ ap (λ (e : Entered). placed (replyOf reply e) before) same;
+      long = r .long ∙ ap (λ (t : List ℕ). placedLength t before) same;
+      text = r .text ∙ ap (λ (t : List ℕ). placed t before) same;
     }
 
 pub answers-within : (reply : Reply) (filled : Filled) (buffer before : List ℕ) (n : ℕ) (after : List ℕ) → Answers reply filled buffer before n after

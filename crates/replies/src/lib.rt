@@ -6,10 +6,11 @@ use input::Filled;
 // One byte more than the longest text: an input that fills the buffer is too long, whatever follows.
 pub const ENOUGH: usize = forms::LONGEST_TEXT + 1;
 
-// What is replied to a sheet: the record of its report, or the sheet cleaned.
+// What is replied to a sheet: the record of its report, the sheet cleaned, or the old sheet changed over.
 pub enum Reply {
     Record,
     CleanSheet,
+    ChangedSheet,
 }
 
 // The reply to a whole text, written at the beginning of `out`, and its length; `out` too short is left alone, and the answer is 0.
@@ -19,6 +20,7 @@ fn reply_to(reply: Reply, text: &[u8], out: &mut [u8]) -> usize
     match reply {
         Reply::Record => sheet::answer_sheet(text, out),
         Reply::CleanSheet => cleaning::clean_sheet(text, out),
+        Reply::ChangedSheet => old_sheets::change_sheet(text, out),
     }
 }
 

@@ -137,13 +137,18 @@ withShare method tolerance share = record { method = method; first = pos 60000; 
 abbrev opening : (method tolerance : ℤ) → Opening
 opening method tolerance = withShare method tolerance (pos 0)
 
-whole-range-by-M : quoteOf (opening (pos 0) (pos 1)) ≡ Quote.Quoted 15 62
+whole-range-by-M : quoteOf (opening (pos 1) (pos 1)) ≡ Quote.Quoted 15 62
 unfolding quoteOf openingRefusal methodOf turnsOf digits halvings
 whole-range-by-M = refl
 
 whole-range-by-R : quoteOf (opening (pos 2) (pos 1)) ≡ Quote.Quoted 15 77
 unfolding quoteOf openingRefusal methodOf turnsOf digits halvings
 whole-range-by-R = refl
+
+-- by the house default as by R
+whole-range-by-default : quoteOf (opening (pos 0) (pos 1)) ≡ Quote.Quoted 15 77
+unfolding quoteOf openingRefusal methodOf turnsOf digits halvings
+whole-range-by-default = refl
 
 largest-tolerance : quoteOf (opening (pos 1) (pos 5000)) ≡ Quote.Quoted 3 14
 unfolding quoteOf openingRefusal methodOf turnsOf digits halvings
@@ -154,7 +159,7 @@ unfolding quoteOf openingRefusal
 quote-refused = refl
 
 -- from τ alone, whatever the share; one out of range is refused
-quote-with-share : quoteOf (withShare (pos 0) (pos 1) (pos 100)) ≡ Quote.Quoted 15 62
+quote-with-share : quoteOf (withShare (pos 0) (pos 1) (pos 100)) ≡ Quote.Quoted 15 77
 unfolding quoteOf openingRefusal methodOf turnsOf digits halvings
 quote-with-share = refl
 

@@ -46,7 +46,7 @@ padded zs = zs ++ replicate (slots - length zs) (pos 0)
 
 -- the house default, which method 0 stands for
 abbrev pub house : Method
-house = Method.M
+house = Method.R
 
 unfoldable pub methodOf : Opening → Method
 methodOf o = cond (eqZ (o .method) (pos 0)) house (cond (eqZ (o .method) (pos 1)) Method.M Method.R)

@@ -72,8 +72,8 @@ starred-hold = refl
 
 abbrev pub further : List Trial
 further =
-    -- method 0 is M: R would call for 40, as the eighth starred trial does
-    trial (pos 0) (pos 0) (pos 100) (pos 1) (minus 50 ∷ pos 100 ∷ minus 10 ∷ []) (Next 41 3)
+    -- method 0 is R since request 2026-08: M would call for 41, as the second starred trial does
+    trial (pos 0) (pos 0) (pos 100) (pos 1) (minus 50 ∷ pos 100 ∷ minus 10 ∷ []) (Next 40 3)
     -- no answer, and one
     ∷ trial (pos 1) (pos 30) (pos 10) (pos 1) [] (Next 30 0)
     ∷ trial (pos 1) (pos 30) (pos 10) (pos 1) (minus 7 ∷ []) (Next 10 1)

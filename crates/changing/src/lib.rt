@@ -1,0 +1,57 @@
+// The house default changed from M to R: an opening and a held search that were asked by M under method 0, as what they were.
+ghost use mathlib.Core.Path.{_≡_};
+ghost use mathlib.Core.Bool.{false};
+ghost use Rattle.rules.specs.Search.{isRefusal};
+ghost use Rattle.held.specs.Held.{heldReport};
+ghost use Rattle.changeover.specs.Changeover.{oldDefault, numberUnder, openingUnder, searchUnder, changedSearch};
+ghost use Rattle.changeover.specs.Claims.{ChangedSearch};
+use held::Entered;
+use held::Search;
+use rules::Opening;
+
+// The number of the old default, M.
+const OLD_DEFAULT: i32 = 1;
+
+// The number of M in place of 0, and every other as it is.
+fn number_under(method: i32) -> i32
+    ensures { λ r. ⌜ r ≡ numberUnder oldDefault method ⌝ }
+{
+    if comparisons::equal(method, 0) {
+        OLD_DEFAULT
+    } else {
+        method
+    }
+}
+
+// An opening read with 0 as M.
+pub fn under_old_default(o: Opening) -> Opening
+    ensures { λ r. ⌜ r ≡ openingUnder oldDefault o ⌝ }
+{
+    let mut named = o;
+    named.method = number_under(o.method);
+    named
+}
+
+// A search read with 0 as M: its report then, and beside it the search with method 1 in place of 0. One that is refused stays as it is. Of
+// every search that is not refused the claim on searches changed over holds.
+pub fn change_search(search: Search) -> Entered
+    ensures { λ r. ⌜ r ≡ changedSearch search ⌝ }
+    ensures { λ _. ⌜ (isRefusal (heldReport (searchUnder oldDefault search)) ≡ false → ChangedSearch search) ⌝ }
+{
+    let opening = under_old_default(search.opening);
+    let count = search.count;
+    let slots = search.slots;
+    let changed = Search {
+        opening,
+        count,
+        slots,
+    };
+    let report = changed.report();
+    if refusals::is_refusal(report) {
+        return Entered { report, search };
+    }
+    Entered {
+        report,
+        search: changed,
+    }
+}
