@@ -48,9 +48,11 @@ extern "C" {
  * slots; of a dispatcher, each search so, the mark and the counts. What is older is copied as said above, with 0 for the share. The reports are
  * the same: with share 0 the tolerance at every point is the tolerance. A sheet whose first record has five fields is no longer malformed (12)
  * for that; it is judged by the rest of it. Since version 8 the house default is R, where it was M, and there is busdekker_change_over. No struct
- * has changed. A quotation with method 0 is larger than it was, and a search or a sheet with method 0 that was begun before version 8 was asked
- * by M: read as it is it may be refused, or be sent to other points. A host that kept such a search, by itself or in a dispatcher, copies it
- * where it is of version 6 or older as said above, and then changes it over. */
+ * has changed. An opening with method 0 is quoted 2 + 5t answers, where it was 2 + 4t. A search or a sheet with method 0 that was begun before
+ * version 8 was asked by M. Such a search, read as it is, may be refused, be sent to other points, or be told another stop. A host that kept one,
+ * by itself or in a dispatcher, copies it, where it is of version 6 or older, as said above, and then changes it over by busdekker_change_over
+ * before any other call on it or on its dispatcher. Such a sheet, read as it is, may be refused, or be sent to another point: it goes through the
+ * program old_default, which reads it with 0 as M and writes its clean sheet with method 1. */
 #define BUSDEKKER_VERSION 8
 
 /* The answers that a search keeps. */
@@ -72,7 +74,8 @@ extern "C" {
 #define BUSDEKKER_SERVED_CEILING 1000000000
 
 /* The bytes of stack that a call needs: a busdekker_dispatch_ call, which copies a dispatcher, and any other. Measured by tests/stack.c, which
- * runs each call on a painted stack and looks how far it was written; the gate holds every call to its figure. */
+ * runs each call on a painted stack and looks how far it was written; the gate holds every call to its figure. Where memcpy or memset is bound at
+ * its first call, by a dynamic loader, what the loader needs then comes on top. */
 #define BUSDEKKER_DISPATCHER_STACK 10240
 #define BUSDEKKER_STACK 2048
 
@@ -150,7 +153,7 @@ struct busdekker_search {
  * the number of answers served there. A dryer without a search holds the blank one, every number 0, whose report is a refusal (3). A mark
  * `last` that is not 0 to 5 reads as none served. Only busdekker_dispatch_open and busdekker_dispatch_enter should write it, its searches too,
  * but for the copy from an older version that stands at BUSDEKKER_VERSION; its searches may be lent to what reads a search, as
- * &dispatcher.searches[2] to busdekker_write, and each of them, where it was begun before version 8, once to busdekker_change_over.
+ * &dispatcher.searches[2] to busdekker_write, and where they were begun before version 8, each of them to busdekker_change_over.
  *
  * The oven's turn goes to the next dryer whose search is accepted and unfinished, which is to say that its report is BUSDEKKER_NEXT: counting
  * round from the one after the last served, or from dryer 0 where none was. An accepted answer serves the turn; a refused one leaves it. While
@@ -255,7 +258,8 @@ struct busdekker_report busdekker_enter(struct busdekker_search *search, int32_t
 struct busdekker_answered busdekker_entered(struct busdekker_search search, int32_t point, int32_t value);
 
 /* Asks for the report of *search as it stands, which is read and not written. Slots at or past the count never alter it. A refusal (1 to 5, 7
- * to 9, 17) says that *search was not made by busdekker_open and the answers entered since. */
+ * to 9, 17) says that *search was not made by busdekker_open and the answers entered since, or was begun before version 8 with method 0 and is not
+ * changed over. */
 struct busdekker_report busdekker_ask(const struct busdekker_search *search);
 
 /* The report on an opening and the values answered so far, in the order called for. `values` points to `length` numbers, any number of them,
@@ -284,13 +288,13 @@ struct busdekker_written busdekker_write(const struct busdekker_search *search, 
 
 /*
  * Changes over a search that was begun before version 8, when BUSDEKKER_HOUSE was M: it is read with 0 as M, and its method 0 becomes
- * BUSDEKKER_M. Methods 1 and 2 stay, and so does every other number of *search. The report is the one that the search had then, and
- * busdekker_ask tells it from now on: what was called for is called for still. The clean sheet of *search is from then on what the program
- * old_default writes of the clean sheet that it had before.
- * A refusal (1 to 5, 7 to 9, 17, with the place that busdekker_ask told then) leaves *search as it was. 3 is also told of a dryer of a dispatcher
- * that has no search.
+ * BUSDEKKER_M. Methods 1 and 2 stay, and so does every other number of *search. The report is the one that busdekker_ask of version 7 told, and
+ * busdekker_ask tells it from now on: what was called for is called for still. busdekker_write now gives what the program old_default makes of
+ * the clean sheet that version 7 wrote of the search; before it is changed over this version would write R's points, or refuse it.
+ * A refusal (1 to 5, 7 to 9, 17, with the place that busdekker_ask of version 7 told) leaves *search as it was. 3 is also told of a dryer of a
+ * dispatcher that has no search.
  * A search does not tell when it was begun. One that was opened with 0 since version 8 was asked by R and must not be changed over: its values
- * would then be taken for those of other points. A search that is changed over again stays as it is.
+ * may then be taken for those of other points. A search that is changed over already stays as it is.
  */
 struct busdekker_report busdekker_change_over(struct busdekker_search *search);
 

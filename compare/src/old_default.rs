@@ -232,8 +232,8 @@ fn search_agrees(search: &Search, told: &mut Told) -> Result<Search, String> {
     Ok(changed)
 }
 
-/// An accepted old search and what it was changed to. The library writes of it what the program makes
-/// of the old clean sheet, and reports on that as the old reading did. To change it over again alters
+/// An accepted old search and what it was changed to. The library writes of it what the model
+/// makes of the old clean sheet, and reports on that as the old reading did. To change it over again alters
 /// nothing.
 fn changed_agrees(search: &Search, changed: &Search, report: &Report) -> Checked {
     let input = || shown(search);
@@ -247,7 +247,7 @@ fn changed_agrees(search: &Search, changed: &Search, report: &Report) -> Checked
     agree((*report, *changed), (report_again, again), input)
 }
 
-/// Old texts of every kind, through the program.
+/// Old texts of every kind.
 pub fn texts(rng: &mut Rng, tally: &mut Tally) -> Checked {
     let possible = BOTH.into_iter().filter(|&kind| kind != ANOTHER_STOP);
     let mut kinds = Kinds::new(&possible.collect::<Vec<_>>());
@@ -316,29 +316,21 @@ fn is_0(field: &[u8]) -> bool {
     (1..=5).contains(&digits.len()) && digits.iter().all(|&digit| digit == b'0')
 }
 
-/// One text: its reports by both readings, and what the program makes of it, which for a refused one
-/// is the record of the old reading.
+/// One text: its reports by both readings, and for an accepted one the sheet that the model makes
+/// of it. What the program itself makes of texts is compared in `bin/programs.rs`.
 fn text_agrees(text: &[u8], tally: &mut Tally, kinds: &mut Kinds) -> Checked {
     let input = || format!("an old sheet:\n{}", sheets::show(text));
     let (old, today) = (OLD.sheet(text), ffi::sheet(text));
     agree(TODAY.sheet(text), today, input)?;
     let with_0 = readings_agree(text, (&old, &today))?;
-    let new = model::old_default(text);
     let method = match OLD.read(text) {
         Ok(book) => {
-            new_sheet_agrees(&book, &new, input)?;
+            new_sheet_agrees(&book, &model::old_default(text), input)?;
             agree(with_0, book.opening().method == 0, input)?;
             book.opening().method
         }
-        Err(refusal) => {
-            let record = format!("{refusal}\r\n").into_bytes();
-            agree(Text(record), Text(new), input)?;
-            if with_0 {
-                0
-            } else {
-                -1
-            }
-        }
+        Err(_) if with_0 => 0,
+        Err(_) => -1,
     };
     let kind = both(method, &old, &today);
     agree(false, kind == ANOTHER_STOP, input)?;
@@ -367,17 +359,13 @@ fn readings_agree(text: &[u8], (old, today): (&Report, &Report)) -> Result<bool,
 }
 
 /// The new sheet of an accepted old one: the library reports on it as the old reading did, and writes
-/// it of the old search changed over. It is clean, its method is 1 or 2 as it must be, and through the
-/// program again it is the same.
+/// it of the old search changed over. Its method is 1 or 2 as it must be.
 fn new_sheet_agrees(book: &Book, new: &[u8], input: impl Fn() -> String) -> Checked {
     agree(book.report(), ffi::sheet(new), &input)?;
     let mut search = book.search();
     let report = ffi::change_over(&mut search);
     agree(book.report(), report, &input)?;
-    let shown = || Text(new.to_vec());
-    agree(shown(), written(&search), &input)?;
-    agree(shown(), Text(model::clean_text(new)), &input)?;
-    agree(shown(), Text(model::old_default(new)), &input)?;
+    agree(Text(new.to_vec()), written(&search), &input)?;
     let first: &[u8] = if book.opening().method == 2 {
         b"2,"
     } else {

@@ -1,5 +1,6 @@
 -- The same as `Whole.antt` with no value beside the `&mut S`: the struct is copied out whole and passed to a step by value, and the struct
--- that the step returns is stored back whole. Nothing here names a field of S.
+-- that the step returns is stored back whole. Nothing here names a field of S. At every step of the walk the places of the locals depend on how
+-- many values there are, so that each number of them has its own text.
 -- Assumes nothing.
 use mathlib.Core.Path.{_≡_, refl, ap}
 use Prim.Native.Nat.{ℕ}

@@ -1,5 +1,5 @@
--- The change of the house default, as request 2026-08 says it: sheets and held searches read with 0 as any method, and what one with method 0
--- becomes that was asked by M. A text is the list of its bytes.
+-- The change of the house default, as request 2026-08 says it: sheets and held searches read with 0 as a method m, which is a parameter; and
+-- what the old ones become, in which 0 was M. A text is the list of its bytes.
 -- Assumes nothing.
 use Prim.Native.Nat.{ℕ}
 use mathlib.Core.Bool.{cond}
@@ -24,7 +24,7 @@ oldDefault = Method.M
 
 -- ---- read with 0 as m
 
--- the number of a method's own
+-- a method's own number
 abbrev pub methodNumber : Method → ℤ
 methodNumber Method.M = pos 1
 methodNumber Method.R = pos 2

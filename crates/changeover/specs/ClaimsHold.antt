@@ -38,11 +38,9 @@ use Rattle.clean_sheets.specs.TextLaws.{text-clean}
 use Rattle.clean_sheets.specs.ClaimsHold as clean
 use Rattle.changeover.specs.Changeover.{oldDefault, methodNumber, openingUnder, entriesUnder, sheetUnder, searchUnder, cleanUnder, changedSheet}
 use Rattle.changeover.specs.Changeover.{changedSearch}
-use Rattle.changeover.specs.Claims.{Under, EveryChangedSheet, EveryChangedSearch}
-use Rattle.changeover.specs.UnderLaws.{under-method, under-refusal, under-read, sheet-others, sheet-same, held-same, clean-same}
-
-pub under : Under
-under = record { method = under-method; others = sheet-others; sheet = sheet-same; held = held-same; clean = clean-same }
+use Rattle.printing.specs.Printed.{recordOf}
+use Rattle.changeover.specs.Claims.{Under, RefusedBefore, EveryChangedSheet, EveryChangedSearch}
+use Rattle.changeover.specs.UnderLaws.{alike, under-method, under-refusal, under-read, under-other, sheet-others, sheet-same, held-same, clean-same}
 
 -- ---- the number of an accepted opening's method
 
@@ -148,6 +146,22 @@ module _ (m : Method) (text : List ℕ) (o : Opening) (answers : List Answer) (r
 
 -- ---- the claims
 
+pub under : Under
+under =
+    record {
+      alike = alike;
+      method = under-method;
+      others = sheet-others;
+      twin = λ m text t o answers r k. sym (as-twin m text o answers r t k);
+      sheet = sheet-same;
+      held = held-same;
+      clean = clean-same;
+    }
+
+pub refused-before : RefusedBefore
+unfolding cleanedOf changedSearch
+refused-before = record { sheet = λ text h. simp h; search = λ s h. simp h }
+
 form-read : (m : Method) (text : List ℕ) → isRefusal (sheetUnder m text .report) ≡ false → entriesOf text .form ≡ Form.Read
 unfolding sheetUnder
 form-read m text taken = go (entriesOf text .form) refl taken
@@ -196,12 +210,15 @@ module _ (s : Search) (a : AcceptedSearch (searchUnder oldDefault s)) where
   claims = clean.clean-sheets new a
 
   -- the old clean sheet is read as the opening as held, and the answers by the old reading
-  old-read : ReadAs (cleanUnder oldDefault s) (s .opening) answers
+  old-spelled : CleanText (cleanUnder oldDefault s) (s .opening) answers
   unfolding cleanUnder
-  old-read =
+  old-spelled =
       let kept = clean.kept (new .opening) (valuesOf new) fine in
       let journal = spellable-journal (new .opening) (opened (new .opening) new-accepted) answers kept in
-      spelled-read (clean-sheet (text-clean (s .opening) answers (spellable-opening (s .opening) (opened (s .opening) old-accepted)) journal)) few
+      text-clean (s .opening) answers (spellable-opening (s .opening) (opened (s .opening) old-accepted)) journal
+
+  old-read : ReadAs (cleanUnder oldDefault s) (s .opening) answers
+  old-read = spelled-read (clean-sheet old-spelled) few
 
   new-read : ReadAs (cleanOf new) (new .opening) answers
   new-read = spelled-read (claims .spelled) few
@@ -219,9 +236,23 @@ module _ (s : Search) (a : AcceptedSearch (searchUnder oldDefault s)) where
   unfolding changedSearch
   changed = rw (a .accepted)
 
+stays : (s : Search) → (s .opening .method ≡ pos 0 → ⊥) → searchUnder oldDefault s ≡ s
+stays s h = ap (λ (o : Opening). record { opening = o; count = s .count; slots = s .slots }) (under-other oldDefault (s .opening) h)
+
+stays-new : (s : Search) → AcceptedSearch (searchUnder oldDefault s) → searchUnder oldDefault (searchUnder oldDefault s) ≡ searchUnder oldDefault s
+stays-new s a = stays (searchUnder oldDefault s) (no-zero (one-or-two oldDefault (s .opening) (new-accepted s a)))
+
+again : (s : Search) (a : AcceptedSearch (searchUnder oldDefault s)) → changedSearch (new s a) ≡ record { report = heldReport (new s a); search = new s a }
+again s a =
+    changed (new s a) (subst AcceptedSearch (sym (stays-new s a)) a)
+    ∙ ap (λ (x : Search). record { report = heldReport x; search = x }) (stays-new s a)
+
 pub changed-searches : EveryChangedSearch
 changed-searches s a =
     record {
+      spelled = old-spelled s a;
+      others = λ h. rw (changed s a) (stays s h);
+      again = rw (changed s a) (again s a);
       old = rw (changed s a) (outcomes-same s a ∙ claims s a .restored);
       sheet = rw (changed s a) (ap cleanedOf (outcomes-same s a) ∙ cleaned s a);
       same = rw (changed s a) refl;

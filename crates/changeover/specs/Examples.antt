@@ -81,34 +81,34 @@ holds method vs =
       slots = take slots (vs ++ replicate slots (pos 7));
     }
 
-record Held : Type 0 where
+record Changed : Type 0 where
   before : Search
   after : Search
   report : Report
   sheet : List ℕ
 
 -- a search, the search after the call, its report, and the old clean sheet of the search before
-abbrev held : Search → Search → Report → String → Held
-held before after report text = record { before = before; after = after; report = report; sheet = bytes text }
+abbrev changed : Search → Search → Report → String → Changed
+changed before after report text = record { before = before; after = after; report = report; sheet = bytes text }
 
 -- document 01's values by M
 abbrev settled : List ℤ
 settled = negative 50 ∷ pos 100 ∷ negative 10 ∷ negative 2 ∷ pos 1 ∷ []
 
-abbrev searches : List Held
+abbrev searches : List Changed
 searches =
-    held (holds 0 []) (holds 1 []) (Next 0 0) "0,0,100,1\r\n"
+    changed (holds 0 []) (holds 1 []) (Next 0 0) "0,0,100,1\r\n"
     -- to the stop: the points of its old clean sheet are M's
-    ∷ held (holds 0 settled) (holds 1 settled) (Stop 41 43 43 5) "0,0,100,1\r\n0,-50\r\n100,100\r\n33,-10\r\n41,-2\r\n43,1\r\n"
+    ∷ changed (holds 0 settled) (holds 1 settled) (Stop 41 43 43 5) "0,0,100,1\r\n0,-50\r\n100,100\r\n33,-10\r\n41,-2\r\n43,1\r\n"
     -- methods 1 and 2 are kept
-    ∷ held (holds 1 (negative 50 ∷ [])) (holds 1 (negative 50 ∷ [])) (Next 100 1) "1,0,100,1\r\n0,-50\r\n"
-    ∷ held (holds 2 (negative 50 ∷ [])) (holds 2 (negative 50 ∷ [])) (Next 100 1) "2,0,100,1\r\n0,-50\r\n"
+    ∷ changed (holds 1 (negative 50 ∷ [])) (holds 1 (negative 50 ∷ [])) (Next 100 1) "1,0,100,1\r\n0,-50\r\n"
+    ∷ changed (holds 2 (negative 50 ∷ [])) (holds 2 (negative 50 ∷ [])) (Next 100 1) "2,0,100,1\r\n0,-50\r\n"
     -- a refused one stays as it is
-    ∷ held (holds 0 (pos 5 ∷ pos 6 ∷ [])) (holds 0 (pos 5 ∷ pos 6 ∷ [])) (Refused 8 1) "0,0,100,1\r\n0,5\r\n100,6\r\n"
-    ∷ held (holds 3 []) (holds 3 []) (Refused 1 0) "3,0,100,1\r\n"
+    ∷ changed (holds 0 (pos 5 ∷ pos 6 ∷ [])) (holds 0 (pos 5 ∷ pos 6 ∷ [])) (Refused 8 1) "0,0,100,1\r\n0,5\r\n100,6\r\n"
+    ∷ changed (holds 3 []) (holds 3 []) (Refused 1 0) "3,0,100,1\r\n"
     ∷ []
 
-abbrev AllHeld : List Held → Type 0
+abbrev AllHeld : List Changed → Type 0
 AllHeld [] = Unit {0}
 AllHeld (x ∷ xs) =
     (changedSearch (x .before) ≡ record { report = x .report; search = x .after }) × (cleanUnder oldDefault (x .before) ≡ x .sheet) × AllHeld xs

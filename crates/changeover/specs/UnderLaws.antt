@@ -3,7 +3,7 @@
 -- for m.
 -- Assumes nothing.
 use Prim.Native.Nat.{ℕ}
-use mathlib.Core.Path.{_≡_, refl, sym, ap, ap₂, _∙_}
+use mathlib.Core.Path.{_≡_, refl, sym, ap, ap₂, subst, _∙_}
 use mathlib.Core.Bool.{Bool, true, false, cond}
 use mathlib.Core.List.{List, [], _∷_, foldl}
 use lib.Dec.{eqb, ltb}
@@ -19,7 +19,7 @@ use Rattle.rules.specs.declared.Progress.{Progress}
 use Rattle.rules.specs.declared.Report.{Report}
 use Rattle.rules.specs.Rules.{slots, house, methodOf, toleranceAt, stoppedOf, offsetOf, nextOf}
 use Rattle.rules.specs.Refusals.{openingRefusal, countAbove}
-use Rattle.rules.specs.Search.{otherAt, beginOf, offerOf, takeOf, progressOf, answersOf, bracketReport, reportAt}
+use Rattle.rules.specs.Search.{otherAt, beginOf, offerOf, takeOf, progressOf, answersOf, bracketReport, reportAt, reportOf}
 use Rattle.held.specs.declared.Search.{Search}
 use Rattle.held.specs.declared.Entered.{Entered}
 use Rattle.held.specs.Held.{valuesOf, standingOf, heldReport}
@@ -90,6 +90,22 @@ module _ (o : Opening) (z : ℤ) (e : methodOf (withMethod o z) ≡ methodOf o) 
       rw (next-same k, take-same (Progress.Bracketed k) v, points-same (takeOf o (Progress.Bracketed k) v) vs)
   points-same (Progress.Refused n i) (v ∷ vs) = rw (take-same (Progress.Refused n i) v, points-same (takeOf o (Progress.Refused n i) v) vs)
 
+pub alike : (o u : Opening) → o .first ≡ u .first → o .second ≡ u .second → o .tolerance ≡ u .tolerance → o .share ≡ u .share
+    → methodOf o ≡ methodOf u → openingRefusal o ≡ openingRefusal u → (vs : List ℤ) → reportOf o vs ≡ reportOf u vs
+unfolding reportOf progressOf beginOf
+alike o u a b c d e f vs = subst (λ (x : Opening). reportOf o vs ≡ reportOf x vs) is (sym (one vs))
+  where
+    is : withMethod o (u .method) ≡ u
+    is = rw (a, b, c, d)
+
+    same : methodOf (withMethod o (u .method)) ≡ methodOf o
+    same = ap methodOf is ∙ sym e
+
+    one : (vs : List ℤ) → reportOf (withMethod o (u .method)) vs ≡ reportOf o vs
+    one vs =
+        let begins : beginOf (withMethod o (u .method)) ≡ beginOf o = rw (ap openingRefusal is ∙ sym f) in
+        report-same o (u .method) same _ ∙ ap (reportAt o) (values-same o (u .method) same _ vs ∙ ap (λ (p : Progress). foldl (takeOf o) p vs) begins)
+
 -- ---- the number of m in place of 0
 
 number-stands : (m : Method) (o : Opening) → methodOf (withMethod o (methodNumber m)) ≡ m
@@ -139,9 +155,9 @@ sheet-others m text h = go (entriesOf text) (entriesOf text .form) h
 
 -- the outcome with 0 as m, from what a text's records are read as
 module _ (m : Method) (text : List ℕ) (e : Entries) (f : e ≡ entriesOf text) where
-  pub under-refused : (n k : ℕ) → e .form ≡ Form.Refused n k → refusedAt n k ≡ sheetUnder m text
+  pub under-judged : judged (entriesUnder m e) (e .form) ≡ sheetUnder m text
   unfolding sheetUnder
-  under-refused n k g = rw (← f, g)
+  under-judged = rw (← f)
 
   pub under-read : e .form ≡ Form.Read → outcomeOf (entriesUnder m e) ≡ sheetUnder m text
   unfolding sheetUnder

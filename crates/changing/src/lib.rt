@@ -1,4 +1,4 @@
-// The house default changed from M to R: an opening and a held search that were asked by M under method 0, as what they were.
+// The house default changed from M to R: an opening and a held search from before, in which method 0 was M, changed over.
 ghost use mathlib.Core.Path.{_≡_};
 ghost use mathlib.Core.Bool.{false};
 ghost use Rattle.rules.specs.Search.{isRefusal};
@@ -9,15 +9,15 @@ use held::Entered;
 use held::Search;
 use rules::Opening;
 
-// The number of the old default, M.
-const OLD_DEFAULT: i32 = 1;
+// M's own number.
+const NUMBER_OF_M: i32 = 1;
 
 // The number of M in place of 0, and every other as it is.
 fn number_under(method: i32) -> i32
     ensures { λ r. ⌜ r ≡ numberUnder oldDefault method ⌝ }
 {
     if comparisons::equal(method, 0) {
-        OLD_DEFAULT
+        NUMBER_OF_M
     } else {
         method
     }

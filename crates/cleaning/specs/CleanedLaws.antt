@@ -19,11 +19,7 @@ use Rattle.outcomes.specs.Sheet.{sheetOf}
 use Rattle.clean_sheets.specs.declared.Written.{Written}
 use Rattle.clean_sheets.specs.Clean.{cleanOf, longestSheet, bufferTooShort, wholeBuffer, fittedIn, writtenAfter, writtenOf, bufferOf, cleanedOf}
 use Rattle.clean_sheets.specs.ClaimsHold.{accepted-cleaned, search-accepted, rewritten}
-
--- the length that is told, 0 for a refusal
-abbrev pub lengthTold : Written → ℕ
-lengthTold (Written.Sheet n) = n
-lengthTold (Written.Refused number place) = 0
+use Rattle.cleaning.specs.Cleaned.{lengthTold, outcomeLength, outcomeLeft}
 
 -- ---- what the writer tells and leaves of an accepted search
 
@@ -49,14 +45,6 @@ written-buffer : (s : Search) (buffer : List ℕ) → isRefusal (heldReport s) �
 unfolding bufferOf
 written-buffer s buffer h = simp h
 
--- ---- an outcome put into a buffer: the record of a refusal, or what the writer tells and leaves of the search
-
-abbrev pub outcomeLength : Entered → List ℕ → ℕ
-outcomeLength e before = cond (isRefusal (e .report)) (placedLength (recordOf (e .report)) before) (lengthTold (writtenOf (e .search) before))
-
-abbrev pub outcomeLeft : Entered → List ℕ → List ℕ
-outcomeLeft e before = cond (isRefusal (e .report)) (placed (recordOf (e .report)) before) (bufferOf (e .search) before)
-
 -- ---- an outcome cleaned into what was `before` and is `after`, with n bytes
 
 pub record Cleans (e : Entered) (before : List ℕ) (n : ℕ) (after : List ℕ) : Type 0 where
@@ -68,8 +56,8 @@ refused-cleaned : (e : Entered) → isRefusal (e .report) ≡ true → cleanedOf
 unfolding cleanedOf
 refused-cleaned e h = simp h
 
--- what an accepted outcome has, as that of a text
-pub record Sound (e : Entered) : Type 0 where
+-- what an accepted outcome has that is a text's
+pub record Writable (e : Entered) : Type 0 where
   pub search : isRefusal (heldReport (e .search)) ≡ false
   pub short : length (cleanedOf e) ≤ longestSheet
 
@@ -80,30 +68,30 @@ module _ (e : Entered) (before : List ℕ) where
   refused-left : isRefusal (e .report) ≡ true → outcomeLeft e before ≡ placed (cleanedOf e) before
   refused-left h = rw (refused-cleaned e h) (simp h)
 
-  accepted-length : isRefusal (e .report) ≡ false → Sound e → outcomeLength e before ≡ placedLength (cleanedOf e) before
+  accepted-length : isRefusal (e .report) ≡ false → Writable e → outcomeLength e before ≡ placedLength (cleanedOf e) before
   accepted-length h k = rw (accepted-cleaned e h) (simp h (written-length (e .search) before (k .search)))
 
-  accepted-left : isRefusal (e .report) ≡ false → Sound e → outcomeLeft e before ≡ placed (cleanedOf e) before
+  accepted-left : isRefusal (e .report) ≡ false → Writable e → outcomeLeft e before ≡ placed (cleanedOf e) before
   accepted-left h k = rw (accepted-cleaned e h) (simp h (written-buffer (e .search) before (k .search)))
 
-  cleans-own : (isRefusal (e .report) ≡ false → Sound e) → (isRefusal (e .report) ≡ true → length (recordOf (e .report)) ≤ longestRecord) → (n : ℕ)
+  cleans-own : (isRefusal (e .report) ≡ false → Writable e) → (isRefusal (e .report) ≡ true → length (recordOf (e .report)) ≤ longestRecord) → (n : ℕ)
       → n ≡ outcomeLength e before → (after : List ℕ) → after ≡ outcomeLeft e before → Cleans e before n after
-  cleans-own sound brief n long after bytes = go (isRefusal (e .report)) refl
+  cleans-own writable brief n long after bytes = go (isRefusal (e .report)) refl
     where
       go : (b : Bool) → isRefusal (e .report) ≡ b → Cleans e before n after
       go true h =
           record { long = long ∙ refused-length h; bytes = bytes ∙ refused-left h; short = omega (arith, ap length (refused-cleaned e h), brief h) }
       go false h =
-          record { long = long ∙ accepted-length h (sound h); bytes = bytes ∙ accepted-left h (sound h); short = sound h .short }
+          record { long = long ∙ accepted-length h (writable h); bytes = bytes ∙ accepted-left h (writable h); short = writable h .short }
 
 -- an outcome e that is put into a buffer, and is known to be u
-pub cleans : (e u : Entered) → e ≡ u → (isRefusal (u .report) ≡ false → Sound u) → (before : List ℕ) (n : ℕ) (after : List ℕ)
+pub cleans : (e u : Entered) → e ≡ u → (isRefusal (u .report) ≡ false → Writable u) → (before : List ℕ) (n : ℕ) (after : List ℕ)
     → n ≡ outcomeLength e before → after ≡ outcomeLeft e before → (isRefusal (e .report) ≡ true → length (recordOf (e .report)) ≤ longestRecord)
     → Cleans u before n after
-cleans e u is sound before n after long bytes brief =
-    let own : isRefusal (e .report) ≡ false → Sound e = λ h. subst Sound (sym is) (sound (ap (λ (x : Entered). isRefusal (x .report)) (sym is) ∙ h)) in
+cleans e u is writable before n after long bytes brief =
+    let own : isRefusal (e .report) ≡ false → Writable e = λ h. subst Writable (sym is) (writable (ap (λ (x : Entered). isRefusal (x .report)) (sym is) ∙ h)) in
     subst (λ (x : Entered). Cleans x before n after) is (cleans-own e before own brief n long after bytes)
 
--- the outcome of a text is sound
-pub sheet-sound : (text : List ℕ) → isRefusal (sheetOf text .report) ≡ false → Sound (sheetOf text)
-sheet-sound text taken = record { search = search-accepted text taken; short = rewritten text taken .short }
+-- the outcome of a text is writable
+pub sheet-writable : (text : List ℕ) → isRefusal (sheetOf text .report) ≡ false → Writable (sheetOf text)
+sheet-writable text taken = record { search = search-accepted text taken; short = rewritten text taken .short }

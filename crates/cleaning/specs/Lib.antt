@@ -1,2 +1,3 @@
 -- The modules of `specs/`.
+pub mod Cleaned
 pub mod CleanedLaws

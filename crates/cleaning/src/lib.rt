@@ -8,12 +8,13 @@ ghost use Rattle.printing.specs.Printed.{recordOf, longestRecord, placed, place
 ghost use Rattle.outcomes.specs.Sheet.{sheetOf};
 ghost use Rattle.clean_sheets.specs.Clean.{longestSheet, rewrittenOf};
 ghost use Rattle.clean_sheets.specs.Claims.{Rewritten};
-ghost use Rattle.cleaning.specs.CleanedLaws.{outcomeLength, outcomeLeft};
+ghost use Rattle.cleaning.specs.Cleaned.{outcomeLength, outcomeLeft};
 use clean_sheets::Written;
 use held::Entered;
 
 // Writes an outcome at the beginning of `out`, whose further bytes keep their contents, and answers its length: of a refusal the record that
-// tells it, otherwise the clean sheet of the search. Where `out` is too short nothing is written, and the answer is 0.
+// tells it, otherwise the clean sheet of the search. Where `out` is too short, or the search is refused for all that its report says, nothing is
+// written, and the answer is 0.
 pub fn write_outcome(e: Entered, out: &mut [u8]) -> usize
     ensures { λ r. ⌜ r ≡ outcomeLength e (now (out .entry)) ⌝ }
     ensures { λ _. ⌜ now (out .exit) ≡ outcomeLeft e (now (out .entry)) ⌝ }

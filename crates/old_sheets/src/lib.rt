@@ -8,7 +8,6 @@ ghost use Rattle.printing.specs.Printed.{placed, placedLength};
 ghost use Rattle.clean_sheets.specs.Clean.{longestSheet};
 ghost use Rattle.changeover.specs.Changeover.{oldDefault, sheetUnder, changedSheet};
 ghost use Rattle.changeover.specs.Claims.{ChangedSheet};
-use forms::Form;
 use held::Entered;
 
 // The outcome of a text of any length, read with 0 as M: its report, and the held search that it is, whose method is 1 in place of 0.
@@ -16,14 +15,8 @@ pub fn read_old_sheet(text: &[u8]) -> Entered
     ensures { λ r. ⌜ r ≡ sheetUnder oldDefault (now (text .entry)) ⌝ }
 {
     let mut e = records::read_records(text);
-    let form = e.form;
-    match form {
-        Form::Refused { number, place } => settled::refuse(number, place),
-        Form::Read => {
-            e.opening = changing::under_old_default(e.opening);
-            settled::outcome(e)
-        }
-    }
+    e.opening = changing::under_old_default(e.opening);
+    settled::judge(e)
 }
 
 // Writes the clean sheet of an old sheet of any length, with method 1 in place of 0, at the beginning of `out`, whose further bytes keep their

@@ -24,7 +24,7 @@ use Rattle.forms.specs.declared.AnswerRecord.{AnswerRecord}
 use Rattle.forms.specs.declared.OpeningRecord.{OpeningRecord}
 use Rattle.forms.specs.Text.{recordsOf}
 use Rattle.forms.specs.Entries.{longestText, openingPlace, answerPlace, answerOf, openingOf, opened, entered, refused, answersFrom, recordsRead, entriesOf}
-use Rattle.outcomes.specs.Sheet.{leadsTo, refusedAt, keptOf, settledAs, outcomeOf, sheetOf}
+use Rattle.outcomes.specs.Sheet.{leadsTo, refusedAt, keptOf, settledAs, outcomeOf, judged, sheetOf}
 
 -- ---- where the answers lead
 
@@ -123,6 +123,10 @@ outcome-refused e n f h = rw f (simp (ne-eqb _ 0 (λ g. h (f ∙ g))))
 
 -- the text's outcome, from what its records are read as
 module _ (text : List ℕ) (e : Entries) (f : e ≡ entriesOf text) where
+  pub sheet-judged : judged e (e .form) ≡ sheetOf text
+  unfolding sheetOf
+  sheet-judged = rw (← f)
+
   pub sheet-refused : (n k : ℕ) → e .form ≡ Form.Refused n k → refusedAt n k ≡ sheetOf text
   unfolding sheetOf
   sheet-refused n k g = rw (← f, g)

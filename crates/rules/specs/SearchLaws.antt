@@ -391,6 +391,11 @@ module _ (o : Opening) (op : Opened o) where
       go Method.M e = omega (arith, most-by-M e)
       go Method.R e = omega (arith, most-by-R e)
 
+-- an opening with 0 is quoted as by R: 2 + 5t
+pub most-by-default : (o : Opening) → o .method ≡ pos 0 → mostOf o ≡ 2 + 5 * tOf o
+unfolding methodOf
+most-by-default o e = rw e
+
 -- ---- an answer that is accepted
 
 module _ (o : Opening) (vs : List ℤ) (other : Bool) (v : ℤ) (h : isRefused (offerOf o (progressOf o vs) other v) ≡ false) where

@@ -1,4 +1,4 @@
-// The outcome of a sheet's records, by value: a refusal, or the report on the answers beside the held search that the sheet is.
+// The outcome of what a sheet was read as, by value: a refusal, or the report on the answers beside the held search that the sheet is.
 ghost use mathlib.Core.Path.{_≡_};
 ghost use Prim.Native.Nat.{_≤_};
 ghost use lib.ListN.{length, take};
@@ -6,16 +6,17 @@ ghost use Rattle.rules.specs.Rules.{slots};
 ghost use Rattle.rules.specs.Refusals.{openingRefusal};
 ghost use Rattle.rules.specs.Search.{answersOf, reportAt};
 ghost use Rattle.rules.specs.declared.Progress.the-variants.{Begun};
-ghost use Rattle.outcomes.specs.Sheet.{refusedAt, outcomeOf};
+ghost use Rattle.outcomes.specs.Sheet.{refusedAt, outcomeOf, judged};
 ghost use Rattle.outcomes.specs.SheetLaws.{settledBy, Below};
 use forms::Entries;
+use forms::Form;
 use held::Entered;
 use held::Search;
 use rules::Opening;
 use rules::Report;
 
 // A refusal, and beside it a blank.
-pub fn refuse(number: u32, place: u32) -> Entered
+fn refuse(number: u32, place: u32) -> Entered
     ensures { λ r. ⌜ r ≡ refusedAt number place ⌝ }
 {
     Entered {
@@ -54,7 +55,7 @@ fn settle(e: Entries, report: Report) -> Entered
 }
 
 // The outcome of a text whose records are well formed.
-pub fn outcome(e: Entries) -> Entered
+fn outcome(e: Entries) -> Entered
     requires { ⌜ e .count ≤ slots ⌝ }
     ensures { λ r. ⌜ r ≡ outcomeOf e ⌝ }
 {
@@ -64,4 +65,16 @@ pub fn outcome(e: Entries) -> Entered
     }
     let report = told(e.opening, e.count, &e.points, &e.values);
     settle(e, report)
+}
+
+// The outcome of what a text was read as: the refusal of its form, or the outcome of its records.
+pub fn judge(e: Entries) -> Entered
+    requires { ⌜ e .count ≤ slots ⌝ }
+    ensures { λ r. ⌜ r ≡ judged e (e .form) ⌝ }
+{
+    let form = e.form;
+    match form {
+        Form::Refused { number, place } => refuse(number, place),
+        Form::Read => outcome(e),
+    }
 }

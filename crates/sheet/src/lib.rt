@@ -2,7 +2,6 @@
 ghost use mathlib.Core.Path.{_≡_};
 ghost use Rattle.printing.specs.Printed.{recordOf, placed, placedLength};
 ghost use Rattle.outcomes.specs.Sheet.{sheetOf};
-use forms::Form;
 use held::Entered;
 
 // The outcome of a text of any length: its report, and the held search that it is.
@@ -10,11 +9,7 @@ pub fn read_sheet(text: &[u8]) -> Entered
     ensures { λ r. ⌜ r ≡ sheetOf (now (text .entry)) ⌝ }
 {
     let e = records::read_records(text);
-    let form = e.form;
-    match form {
-        Form::Refused { number, place } => settled::refuse(number, place),
-        Form::Read => settled::outcome(e),
-    }
+    settled::judge(e)
 }
 
 // The outcome of a text as a record's bytes, written at the beginning of `out`, and their number; `out` too short is left alone, and

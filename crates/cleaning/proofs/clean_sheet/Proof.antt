@@ -2,7 +2,7 @@
 -- Assumes nothing.
 use borrow.Author.Needs.{needs}
 use Rattle.clean_sheets.specs.ClaimsHold.{rewritten}
-use Rattle.cleaning.specs.CleanedLaws.{cleans, sheet-sound}
+use Rattle.cleaning.specs.CleanedLaws.{cleans, sheet-writable}
 use Rattle.cleaning.proofs.clean_sheet.Statement.{statement}
 use Rattle.cleaning.proofs.clean_sheet.Tie as tie
 
@@ -20,7 +20,7 @@ returns c =
     let w = c .before .before in
     let read = w .before .before .read-sheet in
     let told = w .write-outcome .ensures in
-    let k = cleans (read .result) _ (read .ensures) (sheet-sound _) _ _ _ (told .0) (told .1 .0) (told .1 .1) in
+    let k = cleans (read .result) _ (read .ensures) (sheet-writable _) _ _ _ (told .0) (told .1 .0) (told .1 .1) in
     (k .long, (k .bytes, (k .short, rewritten _)))
 
 pub clean-sheet-spec : {M : Type 1} → statement M

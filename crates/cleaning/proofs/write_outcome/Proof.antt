@@ -5,7 +5,7 @@ use mathlib.Core.Path.{_≡_, sym, ap, _∙_}
 use mathlib.Core.Bool.{true, false}
 use borrow.Author.Needs.{needs}
 use Rattle.integers.specs.SignsLaws.{never}
-use Rattle.cleaning.specs.CleanedLaws.{lengthTold}
+use Rattle.cleaning.specs.Cleaned.{lengthTold}
 use Rattle.cleaning.proofs.write_outcome.Statement.{statement}
 use Rattle.cleaning.proofs.write_outcome.Tie as tie
 

@@ -10,14 +10,14 @@ use Rattle.rules.specs.Search.{isRefusal}
 use Rattle.held.specs.declared.Entered.{Entered}
 use Rattle.held.specs.Held.{heldReport}
 use Rattle.clean_sheets.specs.ClaimsHold.{search-accepted}
-use Rattle.cleaning.specs.CleanedLaws.{Sound, cleans}
+use Rattle.cleaning.specs.CleanedLaws.{Writable, cleans}
 use Rattle.changeover.specs.Changeover.{oldDefault, sheetUnder, changedSheet}
 use Rattle.changeover.specs.ClaimsHold.{changed-sheets}
 use Rattle.old_sheets.proofs.change_sheet.Statement.{statement}
 use Rattle.old_sheets.proofs.change_sheet.Tie as tie
 
-sound : (text : List ℕ) → isRefusal (sheetUnder oldDefault text .report) ≡ false → Sound (sheetUnder oldDefault text)
-sound text taken =
+writable : (text : List ℕ) → isRefusal (sheetUnder oldDefault text .report) ≡ false → Writable (sheetUnder oldDefault text)
+writable text taken =
     let c = changed-sheets text taken in
     let read = search-accepted (changedSheet text) (ap (λ (e : Entered). isRefusal (e .report)) (c .same) ∙ taken) in
     record { search = ap (λ (e : Entered). isRefusal (heldReport (e .search))) (sym (c .same)) ∙ read; short = c .short }
@@ -36,7 +36,7 @@ returns c =
     let w = c .before .before in
     let read = w .before .before .read-old-sheet in
     let told = w .write-outcome .ensures in
-    let k = cleans (read .result) _ (read .ensures) (sound _) _ _ _ (told .0) (told .1 .0) (told .1 .1) in
+    let k = cleans (read .result) _ (read .ensures) (writable _) _ _ _ (told .0) (told .1 .0) (told .1 .1) in
     (k .long, (k .bytes, (k .short, changed-sheets _)))
 
 pub change-sheet-spec : {M : Type 1} → statement M
