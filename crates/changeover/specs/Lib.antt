@@ -2,6 +2,6 @@
 -- ClaimsHold.
 pub mod Changeover
 pub mod Claims
-mod Examples
 pub mod UnderLaws
 pub mod ClaimsHold
+mod Examples

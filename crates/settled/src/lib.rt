@@ -6,7 +6,7 @@ ghost use Rattle.rules.specs.Rules.{slots};
 ghost use Rattle.rules.specs.Refusals.{openingRefusal};
 ghost use Rattle.rules.specs.Search.{answersOf, reportAt};
 ghost use Rattle.rules.specs.declared.Progress.the-variants.{Begun};
-ghost use Rattle.outcomes.specs.Sheet.{refusedAt, outcomeOf, judged};
+ghost use Rattle.outcomes.specs.Sheet.{refusedAt, judged};
 ghost use Rattle.outcomes.specs.SheetLaws.{settledBy, Below};
 use forms::Entries;
 use forms::Form;
@@ -54,27 +54,19 @@ fn settle(e: Entries, report: Report) -> Entered
     }
 }
 
-// The outcome of a text whose records are well formed.
-fn outcome(e: Entries) -> Entered
-    requires { ⌜ e .count ≤ slots ⌝ }
-    ensures { λ r. ⌜ r ≡ outcomeOf e ⌝ }
-{
-    let refused = refusals::opening_refusal(e.opening);
-    if refused != 0 {
-        return refuse(refused, 1);
-    }
-    let report = told(e.opening, e.count, &e.points, &e.values);
-    settle(e, report)
-}
-
 // The outcome of what a text was read as: the refusal of its form, or the outcome of its records.
 pub fn judge(e: Entries) -> Entered
     requires { ⌜ e .count ≤ slots ⌝ }
     ensures { λ r. ⌜ r ≡ judged e (e .form) ⌝ }
 {
     let form = e.form;
-    match form {
-        Form::Refused { number, place } => refuse(number, place),
-        Form::Read => outcome(e),
+    if let Form::Refused { number, place } = form {
+        return refuse(number, place);
     }
+    let refused = refusals::opening_refusal(e.opening);
+    if refused != 0 {
+        return refuse(refused, 1);
+    }
+    let report = told(e.opening, e.count, &e.points, &e.values);
+    settle(e, report)
 }
