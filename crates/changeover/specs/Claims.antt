@@ -1,6 +1,6 @@
 -- The claims on the change of the house default, request 2026-08: that reading with 0 as m is what it should be; on every sheet and every held
 -- search that the old reading accepts; and on those that it refuses. Nothing is proved here: ClaimsHold has the proofs. The contracts of
--- `old_sheets::change_sheet` and `changing::change_search` say what is told and left, and cite the claims on what is accepted.
+-- `old_sheets::read_old_sheet`, `old_sheets::change_sheet` and `changing::change_search` say what is told and left, and cite the claims.
 -- Assumes nothing.
 use Prim.Native.Nat.{ℕ, _≤_}
 use mathlib.Core.Path.{_≡_}

@@ -4,7 +4,7 @@ ghost use mathlib.Core.Bool.{false};
 ghost use Rattle.rules.specs.Search.{isRefusal};
 ghost use Rattle.held.specs.Held.{heldReport};
 ghost use Rattle.changeover.specs.Changeover.{oldDefault, numberUnder, openingUnder, searchUnder, changedSearch};
-ghost use Rattle.changeover.specs.Claims.{ChangedSearch};
+ghost use Rattle.changeover.specs.Claims.{ChangedSearch, RefusedBefore};
 use held::Entered;
 use held::Search;
 use rules::Opening;
@@ -33,10 +33,11 @@ pub fn under_old_default(o: Opening) -> Opening
 }
 
 // A search read with 0 as M: its report then, and beside it the search with method 1 in place of 0. One that is refused stays as it is. Of
-// every search that is not refused the claim on searches changed over holds.
+// every search that is not refused the claim on searches changed over holds, and of every other the claim on what is refused.
 pub fn change_search(search: Search) -> Entered
     ensures { λ r. ⌜ r ≡ changedSearch search ⌝ }
     ensures { λ _. ⌜ (isRefusal (heldReport (searchUnder oldDefault search)) ≡ false → ChangedSearch search) ⌝ }
+    ensures { λ _. ⌜ RefusedBefore ⌝ }
 {
     let opening = under_old_default(search.opening);
     let count = search.count;

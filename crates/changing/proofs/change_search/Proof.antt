@@ -12,7 +12,7 @@ use Rattle.held.specs.declared.Search.{Search}
 use Rattle.held.specs.Held.{heldReport}
 use Rattle.changeover.specs.Changeover.{oldDefault, searchUnder, changedSearch}
 use Rattle.changeover.specs.Claims.{ChangedSearch}
-use Rattle.changeover.specs.ClaimsHold.{changed-searches}
+use Rattle.changeover.specs.ClaimsHold.{refused-before, changed-searches}
 use Rattle.changing.proofs.change_search.Statement.{statement}
 use Rattle.changing.proofs.change_search.Tie as tie
 
@@ -47,7 +47,7 @@ returns : tie.Need-returns
 returns c =
     let i = c .before in
     let refused = sym (i .is-refusal .ensures) ∙ c .if1 .taken in
-    (left _ _ true (told i) refused, claims _ (search needs))
+    (left _ _ true (told i) refused, (claims _ (search needs), refused-before))
 
 returns-2 : tie.Need-returns-2
 returns-2 c =
@@ -55,7 +55,7 @@ returns-2 c =
     let s = start-of i .args .search in
     let accepted = sym (i .is-refusal .ensures) ∙ c .if1 .left in
     let named = i .before .before .before .under-old-default .ensures in
-    (rw named (left s _ false (told i) accepted), claims s (search needs))
+    (rw named (left s _ false (told i) accepted), (claims s (search needs), refused-before))
 
 pub change-search-spec : {M : Type 1} → statement M
 change-search-spec = tie.close (tie.spec under-old-default-requires report-requires is-refusal-requires returns returns-2)

@@ -12,7 +12,7 @@ use Rattle.held.specs.Held.{heldReport}
 use Rattle.clean_sheets.specs.ClaimsHold.{search-accepted}
 use Rattle.cleaning.specs.CleanedLaws.{Writable, cleans}
 use Rattle.changeover.specs.Changeover.{oldDefault, sheetUnder, changedSheet}
-use Rattle.changeover.specs.ClaimsHold.{changed-sheets}
+use Rattle.changeover.specs.ClaimsHold.{refused-before, changed-sheets}
 use Rattle.old_sheets.proofs.change_sheet.Statement.{statement}
 use Rattle.old_sheets.proofs.change_sheet.Tie as tie
 
@@ -36,8 +36,8 @@ returns c =
     let w = c .before .before in
     let read = w .before .before .read-old-sheet in
     let told = w .write-outcome .ensures in
-    let k = cleans (read .result) _ (read .ensures) (writable _) _ _ _ (told .0) (told .1 .0) (told .1 .1) in
-    (k .long, (k .bytes, (k .short, changed-sheets _)))
+    let k = cleans (read .result) _ (read .ensures .0) (writable _) _ _ _ (told .0) (told .1 .0) (told .1 .1) in
+    (k .long, (k .bytes, (k .short, (changed-sheets _, refused-before))))
 
 pub change-sheet-spec : {M : Type 1} → statement M
 change-sheet-spec = tie.close (tie.spec read-old-sheet-requires write-outcome-requires same-length returns)

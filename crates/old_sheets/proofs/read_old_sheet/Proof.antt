@@ -9,6 +9,7 @@ use Rattle.outcomes.specs.Sheet.{judged}
 use Rattle.outcomes.specs.SheetLaws.{entries-few}
 use Rattle.changeover.specs.Changeover.{oldDefault}
 use Rattle.changeover.specs.UnderLaws.{under-judged}
+use Rattle.changeover.specs.ClaimsHold.{under}
 use borrow.Author.Needs.{needs}
 use Rattle.old_sheets.proofs.read_old_sheet.Statement.{statement}
 use Rattle.old_sheets.proofs.read_old_sheet.Tie as tie
@@ -29,10 +30,12 @@ returns c =
     let u = c .before in
     let r = u .before .read-records in
     let e = r .result in
-    let named : Opening → Entries = λ o. record { form = e .form; opening = o; count = e .count; points = e .points; values = e .values } in
-    c .judge .ensures
-    ∙ ap (λ (o : Opening). judged (named o) (e .form)) (u .under-old-default .ensures)
-    ∙ under-judged oldDefault _ e (r .ensures)
+    let named : Opening → Entries = λ o. record { form = e .form; opening = o; count = e .count; points = e .points; values = e .values } in (
+      c .judge .ensures
+          ∙ ap (λ (o : Opening). judged (named o) (e .form)) (u .under-old-default .ensures)
+          ∙ under-judged oldDefault _ e (r .ensures),
+      under,
+    )
 
 pub read-old-sheet-spec : {M : Type 1} → statement M
 read-old-sheet-spec = tie.close (tie.spec read-records-requires under-old-default-requires judge-requires returns)
