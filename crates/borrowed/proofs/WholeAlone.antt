@@ -32,8 +32,7 @@ use denote.Triple.Entry.{Args, onEntry}
 use denote.Triple.Spec.{tripleOf}
 use denote.Triple.Walked.{Stays, walkOf, AllGo, goes-ref, Walks, walked}
 use denote.Triple.Clauses.{Ended, Clauses, atExit, closing}
-use denote.Exit.{yes}
-use Rattle.borrowed.proofs.Walk.{Plain, row, vals, value, taken-out, put-back, answered, by-one-call}
+use Rattle.borrowed.proofs.Walk.{Plain, row, value, taken-out, put-back, answered, by-one-call}
 use Rattle.borrowed.proofs.Contracts.{by-value, lent, lent-stays, Beside, mirE, rowE, BesideLaws, returning, Returning, to-step, asks, ends-lent}
 
 -- R is the result's type

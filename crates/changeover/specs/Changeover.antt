@@ -8,7 +8,6 @@ use lib.IntN.{ℤ, pos}
 use Rattle.integers.specs.Signs.{eqZ}
 use Rattle.rules.specs.declared.Opening.{Opening}
 use Rattle.rules.specs.declared.Method.{Method}
-use Rattle.rules.specs.declared.Report.{Report}
 use Rattle.rules.specs.Search.{isRefusal}
 use Rattle.held.specs.declared.Search.{Search}
 use Rattle.held.specs.declared.Entered.{Entered}

@@ -15,7 +15,7 @@ use Rattle.rules.specs.declared.Opening.{Opening}
 use Rattle.rules.specs.declared.Method.{Method}
 use Rattle.rules.specs.declared.Answer.{Answer}
 use Rattle.rules.specs.Rules.{slots}
-use Rattle.rules.specs.Refusals.{openingRefusal, Accepted}
+use Rattle.rules.specs.Refusals.{Accepted}
 use Rattle.rules.specs.RefusalsLaws.{Ranged, opened}
 use Rattle.rules.specs.Search.{isRefused, progressOf, isRefusal}
 use Rattle.held.specs.declared.Search.{Search}
@@ -24,21 +24,20 @@ use Rattle.held.specs.Held.{valuesOf, heldReport}
 use Rattle.forms.specs.declared.Form.{Form}
 use Rattle.forms.specs.declared.Entries.{Entries}
 use Rattle.forms.specs.Entries.{filled, entriesOf}
-use Rattle.outcomes.specs.Sheet.{outcomeOf, judged, sheetOf}
+use Rattle.outcomes.specs.Sheet.{judged, sheetOf}
 use Rattle.outcomes.specs.SheetLaws.{sheet-read}
 use Rattle.journal.specs.Answers.{points, values}
 use Rattle.journal.specs.Spelling.{digit, Digits, Numeral, Field, SheetText, CleanText}
 use Rattle.journal.specs.Reading.{ReadAs}
-use Rattle.journal.specs.SpellingLaws.{Spelled, reading, read-spelled, spelled-read}
+use Rattle.journal.specs.SpellingLaws.{reading, spelled-read}
 use Rattle.journal.specs.CleanLaws.{clean-sheet, one-text}
 use Rattle.journal.specs.RunLaws.{spellable-opening, spellable-journal}
 use Rattle.clean_sheets.specs.Clean.{heldAnswers, cleanOf, longestSheet, cleanedOf, rewrittenOf}
-use Rattle.clean_sheets.specs.Claims.{AcceptedSearch, cleared, CleanSheet, Rewritten}
+use Rattle.clean_sheets.specs.Claims.{AcceptedSearch, CleanSheet, Rewritten}
 use Rattle.clean_sheets.specs.TextLaws.{text-clean}
 use Rattle.clean_sheets.specs.ClaimsHold as clean
-use Rattle.changeover.specs.Changeover.{oldDefault, methodNumber, openingUnder, entriesUnder, sheetUnder, searchUnder, cleanUnder, changedSheet}
+use Rattle.changeover.specs.Changeover.{oldDefault, methodNumber, numberUnder, openingUnder, entriesUnder, sheetUnder, searchUnder, cleanUnder}
 use Rattle.changeover.specs.Changeover.{changedSearch}
-use Rattle.printing.specs.Printed.{recordOf}
 use Rattle.changeover.specs.Claims.{Under, RefusedBefore, EveryChangedSheet, EveryChangedSearch}
 use Rattle.changeover.specs.UnderLaws.{alike, under-method, under-refusal, under-read, under-other, sheet-others, sheet-same, held-same, clean-same}
 
@@ -68,7 +67,7 @@ no-zero (inr e) f = never (sym (eq-eqZ (pos 2) (pos 0) (sym e ∙ f)))
 -- ---- a text and its twin
 
 -- a field for the method
-method-field : (m : Method) (z : ℤ) {f : List ℕ} → Field f z → (g : List ℕ) × Field g (cond (eqZ z (pos 0)) (methodNumber m) z)
+method-field : (m : Method) (z : ℤ) {f : List ℕ} → Field f z → (g : List ℕ) × Field g (numberUnder m z)
 method-field m z {f} k = go m (eqZ z (pos 0))
   where
     one-digit : (d : ℕ) → d ≤ 9 → Field (digit d ∷ []) (pos d)

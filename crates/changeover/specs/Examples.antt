@@ -7,7 +7,6 @@ use mathlib.Core.Path.{_≡_, refl}
 use mathlib.Core.List.{List, [], _∷_, _++_}
 use lib.IntN.{ℤ, pos}
 use lib.ListN.{length, take, replicate}
-use Rattle.rules.specs.declared.Opening.{Opening}
 use Rattle.rules.specs.declared.Report.{Report}
 use Rattle.rules.specs.declared.Report.the-variants.{Next, Stop, Refused}
 use Rattle.rules.specs.Rules.{slots, methodOf, toleranceAt, startOf, stoppedOf, forwardOf, displacementOf, linearOf, crossOf, rationalOf}

@@ -3,7 +3,7 @@
 -- for m.
 -- Assumes nothing.
 use Prim.Native.Nat.{ℕ}
-use mathlib.Core.Path.{_≡_, refl, sym, ap, ap₂, subst, _∙_}
+use mathlib.Core.Path.{_≡_, refl, sym, ap, subst, _∙_}
 use mathlib.Core.Bool.{Bool, true, false, cond}
 use mathlib.Core.List.{List, [], _∷_, foldl}
 use lib.Dec.{eqb, ltb}
@@ -14,9 +14,7 @@ use Rattle.integers.specs.SignsLaws.{eqZ-true, ne-eqZ}
 use Rattle.rules.specs.declared.Opening.{Opening}
 use Rattle.rules.specs.declared.Method.{Method}
 use Rattle.rules.specs.declared.Bracket.{Bracket}
-use Rattle.rules.specs.declared.Answer.{Answer}
 use Rattle.rules.specs.declared.Progress.{Progress}
-use Rattle.rules.specs.declared.Report.{Report}
 use Rattle.rules.specs.Rules.{slots, house, methodOf, toleranceAt, stoppedOf, offsetOf, nextOf}
 use Rattle.rules.specs.Refusals.{openingRefusal, countAbove}
 use Rattle.rules.specs.Search.{otherAt, beginOf, offerOf, takeOf, progressOf, answersOf, bracketReport, reportAt, reportOf}
@@ -25,9 +23,9 @@ use Rattle.held.specs.declared.Entered.{Entered}
 use Rattle.held.specs.Held.{valuesOf, standingOf, heldReport}
 use Rattle.forms.specs.declared.Form.{Form}
 use Rattle.forms.specs.declared.Entries.{Entries}
-use Rattle.forms.specs.Entries.{openingPlace, answerPlace, entriesOf}
+use Rattle.forms.specs.Entries.{openingPlace, entriesOf}
 use Rattle.outcomes.specs.Sheet.{leadsTo, settledAs, refusedAt, outcomeOf, judged, sheetOf}
-use Rattle.clean_sheets.specs.Clean.{withPoints, heldAnswers, sheetText, cleanOf}
+use Rattle.clean_sheets.specs.Clean.{withPoints, sheetText, cleanOf}
 use Rattle.changeover.specs.Changeover.{methodNumber, openingUnder, entriesUnder, sheetUnder, searchUnder, cleanUnder}
 
 -- ---- the number of the method in an opening

@@ -1,6 +1,6 @@
 -- `changing::change_search` meets its contract: the report is that of the search under the old default, and it says which search is left.
 -- Assumes nothing.
-use mathlib.Core.Path.{_≡_, refl, sym, ap, _∙_}
+use mathlib.Core.Path.{_≡_, sym, ap, _∙_}
 use mathlib.Core.Bool.{Bool, true, false, cond}
 use borrow.Author.Needs.{needs}
 use lib.ListN.{length}

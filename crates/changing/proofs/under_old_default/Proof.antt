@@ -1,6 +1,6 @@
 -- `changing::under_old_default` meets its contract: the method's number is read with 0 as M, and the others stay.
 -- Assumes nothing.
-use mathlib.Core.Path.{_≡_, ap}
+use mathlib.Core.Path.{ap}
 use borrow.Author.Needs.{needs}
 use lib.IntN.{ℤ}
 use mir.Syntax.{w32}

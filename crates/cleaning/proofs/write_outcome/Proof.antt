@@ -1,8 +1,7 @@
 -- `cleaning::write_outcome` meets its contract: a refusal is answered by its record, and every other outcome by what the writer tells of its
 -- search.
 -- Assumes nothing.
-use mathlib.Core.Path.{_≡_, sym, ap, _∙_}
-use mathlib.Core.Bool.{true, false}
+use mathlib.Core.Path.{sym, ap, _∙_}
 use borrow.Author.Needs.{needs}
 use Rattle.integers.specs.SignsLaws.{never}
 use Rattle.cleaning.specs.Cleaned.{lengthTold}
