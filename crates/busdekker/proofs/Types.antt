@@ -1,5 +1,5 @@
 -- The types of this interface as its proofs by hand want them: a report as plain numbers, beside a search and beside a dispatcher, a verdict
--- with its report as plain numbers, what is told of a written sheet, an answer, and a dispatcher.
+-- with its report as plain numbers, what is told of a written sheet, and of a panel's reply beside its search, an answer, and a dispatcher.
 -- Assumes nothing.
 use mathlib.Core.Path.{refl}
 use denote.Struct.Laws as SL
@@ -17,6 +17,8 @@ use Rattle.numbered.proofs.NumberedVerdict as W
 use Rattle.numbered.proofs.NumberedVerdict.Laws as W′
 use Rattle.clean_sheets.proofs.WrittenRow as T
 use Rattle.clean_sheets.proofs.WrittenRow.Laws as T′
+use Rattle.panel_numbers.proofs.ExchangedRow as X
+use Rattle.panel_numbers.proofs.ExchangedRow.Laws as X′
 use Rattle.borrowed.proofs.Walk.{Plain, struct}
 use Rattle.borrowed.proofs.Contracts.{Beside, BesideLaws}
 use Rattle.lent.proofs.Types.{search}
@@ -44,6 +46,18 @@ beside-laws =
       lawful = SL.lawful E.the-type E′.the-laws;
       is-told = λ e vs is. SL.owed E.the-type E′.the-laws e vs is .0;
       is-left = λ e vs is. SL.owed E.the-type E′.the-laws e vs is .1 .0;
+    }
+
+abbrev pub exchanged : Beside search written-row
+exchanged = record { type = X.the-row; name = X.the-type .name; told = λ e. e .replied; left = λ e. e .search }
+
+abbrev pub exchanged-laws : BesideLaws exchanged
+exchanged-laws =
+    record {
+      tells = SL.tells X.the-type X′.the-laws;
+      lawful = SL.lawful X.the-type X′.the-laws;
+      is-told = λ e vs is. SL.owed X.the-type X′.the-laws e vs is .0;
+      is-left = λ e vs is. SL.owed X.the-type X′.the-laws e vs is .1 .0;
     }
 
 abbrev pub dispatched : Beside dispatcher plain-row

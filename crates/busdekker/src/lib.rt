@@ -8,6 +8,8 @@ ghost use Rattle.outcomes.specs.Sheet.{sheetOf};
 ghost use Rattle.clean_sheets.specs.Clean.{writtenOf, bufferOf, writtenRowOf};
 ghost use Rattle.changeover.specs.Changeover.{changedSearch};
 ghost use Rattle.numbered.specs.Numbered.{answeredOf};
+ghost use Rattle.registers.specs.Exchange.{exchangedOf, replyBuffer};
+ghost use Rattle.panel_numbers.specs.Numbers.{repliedRowOf};
 ghost use Rattle.dispatching.specs.Dispatching.{freshDispatcher, turnOf, openingAt, answerAt, dryerReport};
 ghost use Rattle.dispatch_numbers.specs.Numbers.{turnNumber};
 ghost use Rattle.busdekker.specs.Interface.{version};
@@ -25,7 +27,7 @@ use rules::Row;
 pub extern "C" fn busdekker_version() -> u32
     ensures { λ r. ⌜ r ≡ version ⌝ }
 {
-    8
+    9
 }
 
 // t and the most answers that an opening may need.
@@ -119,6 +121,22 @@ pub extern "C" fn busdekker_change_over(search: &mut Search) -> Row
     let e = numbered::step_change(*search);
     *search = e.search;
     e.report
+}
+
+// Answers a panel's request from the host's search, into the buffer lent, or refuses that.
+#[no_mangle]
+pub extern "C" fn busdekker_panel(
+    search: &mut Search,
+    request: &[u8],
+    reply: &mut [u8],
+) -> WrittenRow
+    ensures { λ r. ⌜ (r ≡ repliedRowOf ((exchangedOf (now (search .entry)) (now (request .entry)) (now (reply .entry))) .replied))
+        × (now (search .exit) ≡ (exchangedOf (now (search .entry)) (now (request .entry)) (now (reply .entry))) .search)
+        × (now (reply .exit) ≡ replyBuffer (now (search .entry)) (now (request .entry)) (now (reply .entry))) ⌝ }
+{
+    let e = panel_numbers::step_panel(*search, request, reply);
+    *search = e.search;
+    e.replied
 }
 
 // A fresh dispatcher: no search, none served and every count 0.

@@ -52,6 +52,9 @@ pub const NOT_ITS_TURN: u32 = 15;
 
 pub const STILL_SEARCHING: u32 = 16;
 
+// The buffer that a panel's reply goes into: shorter than 16 bytes.
+pub const REPLY_TOO_SHORT: u32 = 18;
+
 // An opening: the method, the first end x0, the second end x1, the tolerance τ, and the share p of a setting that is added to it, in parts
 // per thousand. A sheet may hold any of them out of range.
 #[repr(C)]
