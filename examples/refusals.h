@@ -6,6 +6,8 @@
 
 static const char *refusal_in_words(uint32_t number) {
     switch (number) {
+    case BUSDEKKER_REPLY_TOO_SHORT:
+        return "the buffer for the reply is shorter than 16 bytes";
     case BUSDEKKER_NO_SUCH_DRYER:
         return "there is no such dryer; they are 0 to 5";
     case BUSDEKKER_NOT_ITS_TURN:

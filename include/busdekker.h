@@ -52,8 +52,9 @@ extern "C" {
  * version 8 was asked by M. Such a search, read as it is, may be refused, be sent to other points, or be told another stop. A host that kept one,
  * by itself or in a dispatcher, copies it, where it is of version 6 or older, as said above, and then changes it over by busdekker_change_over
  * before any other call on it or on its dispatcher. Such a sheet, read as it is, may be refused, or be sent to another point: it goes through the
- * program old_default, which reads it with 0 as M and writes its clean sheet with method 1. */
-#define BUSDEKKER_VERSION 8
+ * program old_default, which reads it with 0 as M and writes its clean sheet with method 1. Since version 9 there is busdekker_panel; no struct and
+ * no other call has changed. */
+#define BUSDEKKER_VERSION 9
 
 /* The answers that a search keeps. */
 #define BUSDEKKER_SLOTS 77
@@ -63,6 +64,12 @@ extern "C" {
 
 /* 1,102 bytes, 24 for the opening and 14 for each answer: a buffer of so many takes the clean sheet of every search. */
 #define BUSDEKKER_LONGEST_CLEAN_SHEET (24 + 14 * BUSDEKKER_SLOTS)
+
+/* The registers of a panel, which are 0 to 6. */
+#define BUSDEKKER_REGISTERS 7
+
+/* The bytes of the longest reply to a panel, and the least that a buffer for its replies has. */
+#define BUSDEKKER_LONGEST_REPLY 16
 
 /* The dryers of a dispatcher, which are 0 to 5. */
 #define BUSDEKKER_DRYERS 6
@@ -86,17 +93,19 @@ enum busdekker_method {
     BUSDEKKER_R = 2
 };
 
-/* The kinds of reports, of quotations and of what is told of a written sheet. */
+/* The kinds of reports, of quotations and of what is told of a written sheet or a panel's reply. */
 enum busdekker_kind {
     BUSDEKKER_NEXT = 1,    /* a trial is called for */
     BUSDEKKER_STOP = 2,    /* the search has stopped */
     BUSDEKKER_REFUSED = 3, /* something is refused */
     BUSDEKKER_QUOTED = 4,  /* a quotation */
-    BUSDEKKER_WRITTEN = 5  /* a sheet was written */
+    BUSDEKKER_WRITTEN = 5  /* a sheet or a reply was written */
 };
 
 /* The numbers of refusals, in the order in which they are checked. The first that applies is told. */
 enum busdekker_refusal {
+    /* the buffer that a panel's reply is to be written into, before the request and the search */
+    BUSDEKKER_REPLY_TOO_SHORT = 18, /* the buffer is shorter than 16 bytes */
     /* the dryer of a dispatcher, before its search and what is offered to it */
     BUSDEKKER_NO_SUCH_DRYER = 14,   /* dryer not 0 to 5 */
     BUSDEKKER_NOT_ITS_TURN = 15,    /* an answer for a dryer that has not the turn */
@@ -140,8 +149,8 @@ struct busdekker_answer {
 };
 
 /* A search that the host holds: its opening, the number of answers taken, and their values in the first slots. The others hold 0. Only
- * busdekker_open, busdekker_enter and busdekker_change_over should write it, but for the copy from an older version that stands at
- * BUSDEKKER_VERSION. */
+ * busdekker_open, busdekker_enter, busdekker_panel and busdekker_change_over should write it, but for the copy from an older version that stands
+ * at BUSDEKKER_VERSION. */
 struct busdekker_search {
     struct busdekker_opening opening;
     uint32_t count;
@@ -212,10 +221,11 @@ struct busdekker_quotation {
 };
 
 /*
- * What is told of a sheet that is to be written. A number that its kind has not is 0.
+ * What is told of a sheet or a panel's reply that is to be written. A number that its kind has not is 0.
  *
- *   BUSDEKKER_WRITTEN  length is the number of the sheet's bytes, which stand at the beginning of the buffer.
- *   BUSDEKKER_REFUSED  number is 1 to 5, 7 to 9, 13 or 17, and nothing was written. Place is the one that busdekker_ask tells, and 0 for 13.
+ *   BUSDEKKER_WRITTEN  length is the number of the bytes of the sheet or the reply, which stand at the beginning of the buffer.
+ *   BUSDEKKER_REFUSED  nothing was written. Of a sheet number is 1 to 5, 7 to 9, 13 or 17, and place the one that busdekker_ask tells, 0 for 13;
+ *                      of a reply number is 18 and place 0.
  */
 struct busdekker_written {
     uint32_t kind;
@@ -297,6 +307,37 @@ struct busdekker_written busdekker_write(const struct busdekker_search *search, 
  * may then be taken for those of other points. A search that is changed over already stays as it is.
  */
 struct busdekker_report busdekker_change_over(struct busdekker_search *search);
+
+/*
+ * Answers one Modbus request to *search, as a server's reply. Request and reply are protocol data units, without address or check bytes, laid out
+ * by the Modbus Application Protocol: the function, then words of two bytes, the high one first. The registers, by their addresses:
+ *
+ *   0  flags: bit 0 (1), a value is awaited; bit 1 (2), stopped
+ *   1  the point called for, 0 after the stop
+ *   2  lower, 3  upper, 4  better: 0 before the stop
+ *   5  the number of answers taken
+ *   6  value entry: reads as 0
+ *
+ * Function 03 reads, and never alters *search. Function 06 to register 6 enters a value, as a two's complement word, for the point called for:
+ * *search is then what busdekker_enter leaves, and the reply is the request. Any other reply alters nothing. The first of these that applies is
+ * told:
+ *
+ *   an empty request gets an empty reply, of length 0
+ *   exception 04  busdekker_ask refuses *search
+ *   exception 01  the function is another than 03 and 06
+ *   exception 03  the length is not 5, or for 03 the quantity is not 1 to 125
+ *   exception 02  a read goes past register 6, or a write to another register than 6
+ *   exception 03  busdekker_enter would refuse the value: it is out of range (7), on the side of the first (8), or the search has stopped (5)
+ *
+ * An exception's reply is two bytes: the function with its top bit set, and the number of the exception.
+ * `request` points to `length` bytes, any number of them, which are read and not written; `reply` points to `size` bytes, no part of *search or of
+ * the request, that nobody else reads or writes while the call runs. Neither is null, even where its number of bytes is 0. The reply stands at the
+ * beginning of the buffer, and bytes past it keep their contents.
+ * A refusal (18, place 0) is told before all else where `size` is below BUSDEKKER_LONGEST_REPLY: nothing is written, and *search stays.
+ * While nothing else writes it, a search opened by busdekker_open is at every moment the one of the values that the panel's requests entered. A
+ * dispatcher's search is not for a panel: what it enters there would be served to no dryer, out of turn and not counted.
+ */
+struct busdekker_written busdekker_panel(struct busdekker_search *search, const uint8_t *request, size_t length, uint8_t *reply, size_t size);
 
 /* A fresh dispatcher: no dryer has a search, `last` is BUSDEKKER_NOBODY, and all six counts are 0. */
 struct busdekker_dispatcher busdekker_dispatch_fresh(void);

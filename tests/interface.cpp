@@ -3,6 +3,7 @@
 #include "busdekker.h"
 
 #include <cstring>
+#include <initializer_list>
 #include <string>
 
 static_assert(BUSDEKKER_LONGEST_CLEAN_SHEET == 1102, "the longest clean sheet has 1,102 bytes");
@@ -143,6 +144,54 @@ static bool changes_over() {
     return same && std::memcmp(&search, &refused, sizeof search) == 0;
 }
 
+// A text of bytes.
+static std::string bytes(std::initializer_list<int> list) {
+    std::string text;
+    for (const int byte : list) {
+        text += static_cast<char>(byte);
+    }
+    return text;
+}
+
+// A panel's request to a search gets this reply, the rest of the buffer stays as it was, 9 in every byte, and its length is told.
+static bool replies(busdekker_search *search, const std::string &request, const std::string &reply) {
+    uint8_t buffer[BUSDEKKER_LONGEST_REPLY + 1];
+    std::memset(buffer, 9, sizeof buffer);
+    const busdekker_written told = busdekker_panel(search, reinterpret_cast<const uint8_t *>(request.data()), request.size(), buffer, sizeof buffer);
+    const bool same = told.kind == BUSDEKKER_WRITTEN && told.length == reply.size() && told.number == 0 && told.place == 0;
+    return same && std::string(buffer, buffer + sizeof buffer) == reply + std::string(sizeof buffer - reply.size(), 9);
+}
+
+// Each exception, an empty request and a buffer of 15 bytes, to a search that is on its way: none of them alters it.
+static bool excepts(busdekker_search *search) {
+    const busdekker_search before = *search;
+    bool same = replies(search, "", "") && replies(search, bytes({4}), bytes({132, 1})) && replies(search, bytes({255}), bytes({255, 1}));
+    same = same && replies(search, bytes({3, 0, 9, 0, 0}), bytes({131, 3})) && replies(search, bytes({3, 0, 9, 0, 126}), bytes({131, 3}));
+    same = same && replies(search, bytes({3, 0, 1, 0, 7}), bytes({131, 2})) && replies(search, bytes({6, 0, 5, 0, 1}), bytes({134, 2}));
+    same = same && replies(search, bytes({6, 0, 6, 39, 17}), bytes({134, 3})) && replies(search, bytes({6, 0, 6, 0}), bytes({134, 3}));
+    const uint8_t entry[] = {6, 0, 6, 0, 1};
+    uint8_t buffer[BUSDEKKER_LONGEST_REPLY - 1] = {0}, untouched[BUSDEKKER_LONGEST_REPLY - 1] = {0};
+    const busdekker_written refused = busdekker_panel(search, entry, sizeof entry, buffer, sizeof buffer);
+    same = same && refused.kind == BUSDEKKER_REFUSED && refused.number == BUSDEKKER_REPLY_TOO_SHORT && refused.place == 0 && refused.length == 0;
+    return same && std::memcmp(buffer, untouched, sizeof buffer) == 0 && std::memcmp(search, &before, sizeof before) == 0;
+}
+
+// The panel: a search from 0 to 100 is read, takes -50, 100, -10, -2 and 1, and is read at its stop. One that is itself refused gets exception 04.
+static bool serves_a_panel() {
+    const std::string all = bytes({3, 0, 0, 0, BUSDEKKER_REGISTERS}), last = bytes({6, 0, 6, 0, 1});
+    busdekker_search search;
+    bool same = busdekker_open(&search, {BUSDEKKER_M, 0, 100, 1, 0}).kind == BUSDEKKER_NEXT;
+    same = same && replies(&search, all, bytes({3, 14, 0, 1, 0, 0, 0, 0, 0, 0, 0, 0, 0, 0, 0, 0}));
+    for (const std::string &entry : {bytes({6, 0, 6, 255, 206}), bytes({6, 0, 6, 0, 100}), bytes({6, 0, 6, 255, 246}), bytes({6, 0, 6, 255, 254})}) {
+        same = same && replies(&search, entry, entry);
+    }
+    same = same && search.count == 4 && search.slots[3] == -2 && replies(&search, bytes({3, 0, 1, 0, 1}), bytes({3, 2, 0, 43})) && excepts(&search);
+    same = same && replies(&search, last, last) && search.count == 5 && busdekker_ask(&search).kind == BUSDEKKER_STOP;
+    same = same && replies(&search, all, bytes({3, 14, 0, 2, 0, 0, 0, 41, 0, 43, 0, 43, 0, 5, 0, 0})) && replies(&search, last, bytes({134, 3}));
+    search.opening.method = 3;
+    return same && replies(&search, all, bytes({131, 4})) && replies(&search, bytes({4}), bytes({132, 4})) && replies(&search, "", "");
+}
+
 // The calls on a dispatcher: dryers 4 and 1 are opened, 1 has the turn first, and then 4.
 static bool dispatches(busdekker_opening opening, busdekker_opening refused) {
     const busdekker_answer answer = {0, -1};
@@ -187,6 +236,6 @@ int main() {
     const busdekker_written written = busdekker_write(&search, buffer, sizeof buffer);
     same = same && written.kind == BUSDEKKER_WRITTEN && written.length == sizeof clean - 1 && std::memcmp(buffer, clean, written.length) == 0;
     same = same && busdekker_write(&search, buffer, written.length - 1).number == BUSDEKKER_BUFFER_TOO_SHORT;
-    same = same && changes_over() && dispatches(opening, refused) && limits_of_ends() && limits_of_shares() && tolerance_with_a_share();
+    same = same && changes_over() && serves_a_panel() && dispatches(opening, refused) && limits_of_ends() && limits_of_shares() && tolerance_with_a_share();
     return same && limits_of_counts(opening) && limits_of_sheets() ? 0 : 1;
 }

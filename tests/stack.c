@@ -86,6 +86,19 @@ static void change_over(void) {
     kinds += busdekker_change_over(&old).kind;
 }
 
+/* A read of all registers, an entry to a copy, one that is refused, an empty request, and a buffer that is too short. */
+static void panel(void) {
+    const uint8_t all[] = {3, 0, 0, 0, BUSDEKKER_REGISTERS};
+    const uint8_t entry[] = {6, 0, 6, (uint8_t)((uint16_t)value >> 8), (uint8_t)value};
+    const uint8_t refused[] = {6, 0, 6, 127, 255};
+    old = search;
+    kinds += busdekker_panel(&old, all, sizeof all, clean, BUSDEKKER_LONGEST_REPLY).kind;
+    kinds += busdekker_panel(&old, refused, sizeof refused, clean, BUSDEKKER_LONGEST_REPLY).kind;
+    kinds += busdekker_panel(&old, entry, sizeof entry, clean, BUSDEKKER_LONGEST_REPLY).kind;
+    kinds += busdekker_panel(&old, all, 0, clean, BUSDEKKER_LONGEST_REPLY).kind;
+    kinds += busdekker_panel(&old, all, sizeof all, clean, 0).kind;
+}
+
 static void dispatch_fresh(void) {
     other_dispatcher = busdekker_dispatch_fresh();
 }
@@ -145,7 +158,7 @@ static struct call on_searches[] = {
     {"busdekker_version", version, 0}, {"busdekker_quote", quote, 0},       {"busdekker_open", open_anew, 0},
     {"busdekker_entered", entered, 0}, {"busdekker_ask", ask, 0},           {"busdekker_values", values, 0},
     {"busdekker_sheet", sheet, 0},     {"busdekker_write", write_clean, 0}, {"busdekker_change_over", change_over, 0},
-    {"busdekker_enter", enter, 0},
+    {"busdekker_panel", panel, 0},     {"busdekker_enter", enter, 0},
 };
 static struct call on_dispatchers[] = {
     {"busdekker_dispatch_fresh", dispatch_fresh, 0}, {"busdekker_dispatch_turn", dispatch_turn, 0},

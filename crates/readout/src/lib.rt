@@ -17,6 +17,9 @@ const AWAITED: u16 = 1;
 
 const STOPPED: u16 = 2;
 
+// Register 1 after the stop.
+const NO_POINT: u16 = 0;
+
 // The registers of a report, whose points lie within limits.
 pub fn registers_at(report: Report) -> [u16; 7]
     requires { ⌜ Limited report ⌝ }
@@ -31,7 +34,7 @@ pub fn registers_at(report: Report) -> [u16; 7]
             taken,
         } => [
             STOPPED,
-            0,
+            NO_POINT,
             lower as u16,
             upper as u16,
             better as u16,
@@ -80,9 +83,10 @@ fn read_words(words: [u16; 7], request: &[u8]) -> Reply
     let address = modbus::word_at(request, 1) as usize;
     let quantity = modbus::word_at(request, 3) as usize;
     let end = address + quantity;
+    let function = registers::READ_HOLDING;
     let count = (2 * quantity) as u8;
     let begun = Reply {
-        bytes: [registers::READ_HOLDING, count, 0, 0, 0, 0, 0, 0, 0, 0, 0, 0, 0, 0, 0, 0],
+        bytes: [function, count, 0, 0, 0, 0, 0, 0, 0, 0, 0, 0, 0, 0, 0, 0],
         len: 2,
     };
     put_words(begun, &words[address..end])

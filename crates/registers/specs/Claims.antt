@@ -36,7 +36,9 @@ pub record PanelExchange (s : Search) (request : List ℕ) : Type 0 where
   pub marked : Excepted s request → 128 ≤ getD (exchangeOf s request .reply) 0 0
   pub numbered : Excepted s request → (1 ≤ getD (exchangeOf s request .reply) 1 0) × (getD (exchangeOf s request .reply) 1 0 ≤ 4)
   pub unaltered : Excepted s request → exchangeOf s request .search ≡ s
-  -- a read's reply has the register at each place asked for, the high byte first
+  -- a read's reply says in its second byte how many follow, and has the register at each place asked for, the high byte first
+  pub counted : functionOf request ≡ readHolding → eqb (faultOf s request) 0 ≡ true
+      → length (exchangeOf s request .reply) ≡ 2 + getD (exchangeOf s request .reply) 1 0
   pub read-back : functionOf request ≡ readHolding → eqb (faultOf s request) 0 ≡ true → (i : ℕ) → i < quantityOf request
       → wordAt (exchangeOf s request .reply) (2 + 2 * i) ≡ getD (registersOf s) (addressOf request + i) 0
   -- reading never alters the search, nor does anything but an entry

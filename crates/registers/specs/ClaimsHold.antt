@@ -27,7 +27,7 @@ use Rattle.registers.specs.Exchange.{functionOf, faultOf, valueOf, Excha
 use Rattle.registers.specs.Requests.{searchThen, enters, acceptedIn, callsFor, callsIn}
 use Rattle.registers.specs.Claims.{PanelExchange, AllExchanged, NoneRefused, EveryPanelRun, FreshPanelRun, EveryFreshPanelRun}
 use Rattle.registers.specs.PanelLaws.{top-bit, fault-small, when-excepted, reply-short, not-entered, reads-only, entry-made, entry-taken}
-use Rattle.registers.specs.PanelLaws.{reads-back}
+use Rattle.registers.specs.PanelLaws.{reads-count, reads-back}
 
 -- ---- one exchange
 
@@ -41,6 +41,7 @@ exchanged s request =
       numbered = λ e. let some = eqb-false (faultOf s request) 0 (e .fault) in
           rw (when-excepted s request e) (omega (arith, some), fault-small s request);
       unaltered = λ e. ap (λ (x : Exchange). x .search) (when-excepted s request e);
+      counted = reads-count s request;
       read-back = reads-back s request;
       read-only = reads-only s request;
       entry-only = not-entered s request;

@@ -70,6 +70,11 @@ alters s request reply after = record { before = s; request = request; reply = r
 abbrev tells : Search → List ℕ → List ℕ → Worked
 tells s request reply = alters s request reply s
 
+abbrev AllHold : List Worked → Type 0
+AllHold [] = Unit {0}
+AllHold (x ∷ xs) = (exchangeOf (x .before) (x .request) ≡ record { reply = x .reply; search = x .after }) × AllHold xs
+
+-- replies without an exception, and exceptions 04 and 01
 abbrev exchanges : List Worked
 exchanges =
     -- a read of all seven before the stop: 1, 33, 0, 0, 0, 2, 0
@@ -99,8 +104,20 @@ exchanges =
     ∷ tells two (127 ∷ []) (255 ∷ 1 ∷ [])
     ∷ tells two (131 ∷ 0 ∷ 0 ∷ 0 ∷ 7 ∷ []) (131 ∷ 1 ∷ [])
     ∷ tells two (255 ∷ []) (255 ∷ 1 ∷ [])
+    ∷ []
+
+exchanges-hold : AllHold exchanges
+unfolding methodOf toleranceAt startOf stoppedOf forwardOf displacementOf linearOf crossOf rationalOf doubledOf opposed partnerOf streakOf
+    renewedOf advanceOf stepOf reachOf offsetOf nextOf openingRefusal answerRefusal sameSide beginOf offerOf takeOf progressOf bracketReport reportAt
+    standingOf heldReport enterOf registersOf signedOf entryOf readFault writeFault faultOf topBitSet wordBytes exchangeOf
+exchanges-hold =
+    (refl, (refl, (refl, (refl, (refl, (refl, (refl, (refl, (refl, (refl, (refl, (refl, (refl, (refl, (refl, (refl, (refl, (refl, tt))))))))))))))))))
+
+-- requests of the two functions that get exception 03 or 02
+abbrev misfits : List Worked
+misfits =
     -- 03, a wrong length, before the address
-    ∷ tells two (3 ∷ []) (131 ∷ 3 ∷ [])
+    tells two (3 ∷ []) (131 ∷ 3 ∷ [])
     ∷ tells two (3 ∷ 0 ∷ 7 ∷ 0 ∷ []) (131 ∷ 3 ∷ [])
     ∷ tells two (3 ∷ 0 ∷ 0 ∷ 0 ∷ 7 ∷ 0 ∷ []) (131 ∷ 3 ∷ [])
     ∷ tells two (6 ∷ 0 ∷ 5 ∷ 0 ∷ 1 ∷ 0 ∷ []) (134 ∷ 3 ∷ [])
@@ -124,18 +141,12 @@ exchanges =
     ∷ tells five (6 ∷ 0 ∷ 6 ∷ 0 ∷ 1 ∷ []) (134 ∷ 3 ∷ [])
     ∷ []
 
-abbrev AllHold : List Worked → Type 0
-AllHold [] = Unit {0}
-AllHold (x ∷ xs) = (exchangeOf (x .before) (x .request) ≡ record { reply = x .reply; search = x .after }) × AllHold xs
-
-exchanges-hold : AllHold exchanges
+misfits-hold : AllHold misfits
 unfolding methodOf toleranceAt startOf stoppedOf forwardOf displacementOf linearOf crossOf rationalOf doubledOf opposed partnerOf streakOf
     renewedOf advanceOf stepOf reachOf offsetOf nextOf openingRefusal answerRefusal sameSide beginOf offerOf takeOf progressOf bracketReport reportAt
     standingOf heldReport enterOf registersOf signedOf entryOf readFault writeFault faultOf topBitSet wordBytes exchangeOf
-exchanges-hold =
-    (refl, (refl, (refl, (refl, (refl, (refl, (refl, (refl, (refl, (refl, (refl, (refl, (refl, (refl, (refl, (refl, (refl, (refl, (refl, (refl,
-    (refl, (refl, (refl, (refl, (refl, (refl, (refl, (refl, (refl, (refl, (refl, (refl, (refl, (refl, (refl, (refl,
-    tt))))))))))))))))))))))))))))))))))))
+misfits-hold =
+    (refl, (refl, (refl, (refl, (refl, (refl, (refl, (refl, (refl, (refl, (refl, (refl, (refl, (refl, (refl, (refl, (refl, (refl, tt))))))))))))))))))
 
 -- ---- words: two's complement at its turns, and the request that enters −10,000
 

@@ -25,7 +25,8 @@ use Rattle.registers.specs.Exchange.{topBitSet, wordBytes, partOf, readR
 use Rattle.registers.specs.Requests.{wordOf, entryRequest, enters}
 use Rattle.registers.specs.Claims.{Excepted, EveryValue}
 use Rattle.registers.specs.RegistersLaws.{seven}
-use Rattle.registers.specs.ExchangeLaws.{echoed, placeFault, write-fault-is, readable, writable, part-length, read-length}
+use Rattle.registers.specs.ExchangeLaws.{echoed, placeFault, write-fault-is, Readable, readable, writable, word-bytes-length, part-length}
+use Rattle.registers.specs.ExchangeLaws.{read-length}
 
 -- ---- words and bytes
 
@@ -188,20 +189,34 @@ module _ (s : Search) (request : List ℕ) where
     unfolding entryOf
     entry-taken = write-parts fine .1
 
-  -- what is read
-  pub reads-back : functionOf request ≡ readHolding → eqb (faultOf s request) 0 ≡ true → (i : ℕ) → i < quantityOf request
-      → wordAt (exchangeOf s request .reply) (2 + 2 * i) ≡ getD (registersOf s) (addressOf request + i) 0
-  unfolding exchangeOf
-  reads-back e z i h =
-      let f : eqb (functionOf request) readHolding ≡ true = eq-eqb _ _ e in
-      let ok = readable request (fault-of-read f (eqb-true _ _ z)) in
-      let some : eqb (length request) 0 ≡ false = ne-eqb (length request) 0 (λ n. omega (arith, ok .long)) in
-      let part = partOf (registersOf s) (addressOf request) (quantityOf request) in
-      simp (some, z, f)
-      (word-further readHolding (2 * quantityOf request) (wordBytes part) (2 * i)
-      ∙ bytes-word part i (omega (arith, part-length (registersOf s) request (seven s) ok))
-      ∙ getD-take (quantityOf request) (drop (addressOf request) (registersOf s)) i 0 h
-      ∙ getD-drop (addressOf request) (registersOf s) i 0)
+  -- a read
+  module _ (e : functionOf request ≡ readHolding) (z : eqb (faultOf s request) 0 ≡ true) where
+    is-read : eqb (functionOf request) readHolding ≡ true
+    is-read = eq-eqb _ _ e
+
+    ok : Readable request
+    ok = readable request (fault-of-read is-read (eqb-true _ _ z))
+
+    abbrev part : List ℕ
+    part = partOf (registersOf s) (addressOf request) (quantityOf request)
+
+    long : length part ≡ quantityOf request
+    long = part-length (registersOf s) request (seven s) ok
+
+    read-made : exchangeOf s request ≡ read
+    unfolding exchangeOf
+    read-made = let some : eqb (length request) 0 ≡ false = ne-eqb (length request) 0 (λ n. omega (arith, ok .long)) in simp (some, z, is-read)
+
+    pub reads-count : length (exchangeOf s request .reply) ≡ 2 + getD (exchangeOf s request .reply) 1 0
+    reads-count = rw read-made (omega (arith, word-bytes-length part, long))
+
+    pub reads-back : (i : ℕ) → i < quantityOf request → wordAt (exchangeOf s request .reply) (2 + 2 * i) ≡ getD (registersOf s) (addressOf request + i) 0
+    reads-back i h =
+        rw read-made
+        (word-further readHolding (2 * quantityOf request) (wordBytes part) (2 * i)
+        ∙ bytes-word part i (omega (arith, long))
+        ∙ getD-take (quantityOf request) (drop (addressOf request) (registersOf s)) i 0 h
+        ∙ getD-drop (addressOf request) (registersOf s) i 0)
 
 -- ---- every value that the search accepts has a request
 

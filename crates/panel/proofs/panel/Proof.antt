@@ -57,10 +57,13 @@ returns-2 : tie.Need-returns-2
 returns-2 c =
     let p = c .before .before .before .place-text in
     let r = c .before .before .before .before .before .before .before .before in
-    let s = r .before .before .before .before .args in
-    (told-is (s .search) (s .request .now) (s .reply .now) (r .before .if1 .left) (r .respond .result) (r .respond .ensures) _ (p .ensures .0),
-     (buffer-is (s .search) (s .request .now) (s .reply .now) (r .before .if1 .left) (r .respond .result) (r .respond .ensures) _ (p .ensures .1),
-     claims _ _))
+    let s = r .before .before .before .before .args in (
+      told-is (s .search) (s .request .now) (s .reply .now) (r .before .if1 .left) (r .respond .result) (r .respond .ensures) _ (p .ensures .0),
+      (
+        buffer-is (s .search) (s .request .now) (s .reply .now) (r .before .if1 .left) (r .respond .result) (r .respond .ensures) _ (p .ensures .1),
+        claims _ _,
+      ),
+    )
 
 pub panel-spec : {M : Type 1} → statement M
 panel-spec = tie.close (tie.spec returns respond-requires array-share-prefix-bytes slice-aggregate-place-text place-text-requires cast-length same-length returns-2)
