@@ -318,9 +318,9 @@ struct busdekker_report busdekker_change_over(struct busdekker_search *search);
  *   5  the number of answers taken
  *   6  value entry: reads as 0
  *
+ * Registers 0 to 5 are unsigned: a point may be up to 60,000. The value written to register 6 is signed.
  * Function 03 reads, and never alters *search. Function 06 to register 6 enters a value, as a two's complement word, for the point called for:
- * *search is then what busdekker_enter leaves, and the reply is the request. Any other reply alters nothing. The first of these that applies is
- * told:
+ * *search is then what busdekker_enter leaves, and the reply is the request. Nothing else alters *search. The first of these that applies is told:
  *
  *   an empty request gets an empty reply, of length 0
  *   exception 04  busdekker_ask refuses *search
@@ -330,9 +330,9 @@ struct busdekker_report busdekker_change_over(struct busdekker_search *search);
  *   exception 03  busdekker_enter would refuse the value: it is out of range (7), on the side of the first (8), or the search has stopped (5)
  *
  * An exception's reply is two bytes: the function with its top bit set, and the number of the exception.
- * `request` points to `length` bytes, any number of them, which are read and not written; `reply` points to `size` bytes, no part of *search or of
- * the request, that nobody else reads or writes while the call runs. Neither is null, even where its number of bytes is 0. The reply stands at the
- * beginning of the buffer, and bytes past it keep their contents.
+ * `request` points to `length` bytes, any number of them, which are read and not written, and `reply` to `size` bytes that nobody else reads or
+ * writes while the call runs: a buffer of its own, no part of *search, and no part of the request. Neither pointer is null, even where its number
+ * of bytes is 0. The reply stands at the beginning of the buffer, and bytes past it keep their contents. The request is no part of *search.
  * A refusal (18, place 0) is told before all else where `size` is below BUSDEKKER_LONGEST_REPLY: nothing is written, and *search stays.
  * While nothing else writes it, a search opened by busdekker_open is at every moment the one of the values that the panel's requests entered. A
  * dispatcher's search is not for a panel: what it enters there would be served to no dryer, out of turn and not counted.

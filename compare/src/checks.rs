@@ -1,5 +1,5 @@
-//! What the parts of the comparison share: mismatches with their input, and the tally of what was
-//! tried and answered.
+//! What the parts of the comparison share: mismatches with their input, the tally of what was tried
+//! and answered, and the kinds of cases that must come.
 
 use crate::model::{self, Book};
 use crate::sheets;
@@ -69,6 +69,36 @@ pub fn search_as_sheet(search: &Search) -> String {
     format!("{sheet}held as {search:?}")
 }
 
+/// Each kind of case must come so often at least.
+const LEAST: u64 = 500;
+
+/// How often each kind of case came.
+pub struct Kinds(Vec<(&'static str, u64)>);
+
+impl Kinds {
+    pub fn new(names: &[&'static str]) -> Self {
+        Kinds(names.iter().map(|&name| (name, 0)).collect())
+    }
+
+    pub fn count(&mut self, kind: &str) {
+        let found = self.0.iter_mut().find(|(name, _)| *name == kind);
+        found.expect("each kind has been named").1 += 1;
+    }
+
+    /// Tells them all. One that came too seldom is a mismatch.
+    pub fn all_came(&self, of: &str) -> Checked {
+        let kinds = self.0.iter();
+        let told: Vec<String> = kinds.map(|(name, n)| format!("{name} {n}")).collect();
+        println!("{of}: {}", told.join(", "));
+        for (name, n) in &self.0 {
+            agree(true, *n >= LEAST, || {
+                format!("{of}: {name} came {n} times, to be at least {LEAST}")
+            })?;
+        }
+        Ok(())
+    }
+}
+
 /// What was tried, and what was answered.
 #[derive(Default)]
 pub struct Tally {
@@ -77,7 +107,7 @@ pub struct Tally {
     stop: u64,
     quoted: u64,
     written: u64,
-    refused: [u64; 18],
+    refused: [u64; 19],
 }
 
 impl Tally {

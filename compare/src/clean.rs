@@ -82,7 +82,7 @@ fn sizes(length: usize, rng: &mut Rng) -> Vec<usize> {
 /// The same search written by both into a buffer of this size, whose bytes are any: what is told
 /// is the same, and so is every byte of the buffer and around it. The search stays as it is.
 fn write_agrees(search: &Search, size: usize, rng: &mut Rng) -> Result<Written, String> {
-    let mut model = Text(any_bytes(size + 2 * MARGIN, rng));
+    let mut model = Text(rng.bytes(size + 2 * MARGIN));
     let mut library = model.clone();
     let before = library.clone();
     let lent = MARGIN..MARGIN + size;
@@ -141,8 +141,4 @@ fn with_slots(search: &Search, number: impl FnMut() -> i32) -> Search {
 /// The search with any numbers there.
 pub fn with_junk(search: &Search, rng: &mut Rng) -> Search {
     with_slots(search, || rng.any())
-}
-
-fn any_bytes(length: usize, rng: &mut Rng) -> Vec<u8> {
-    (0..length).map(|_| rng.bits() as u8).collect()
 }

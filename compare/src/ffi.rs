@@ -6,7 +6,7 @@ use crate::types::{Answer, Answered, Dispatcher, Opening, Quotation, Report, Sea
 pub const WHO: &str = "the proved library, target/staticlib/libbusdekker.a";
 
 /// The version of the interface that is declared here.
-pub const VERSION: u32 = 8;
+pub const VERSION: u32 = 9;
 
 extern "C" {
     fn busdekker_version() -> u32;
@@ -19,6 +19,13 @@ extern "C" {
     fn busdekker_values(opening: Opening, values: *const i32, length: usize) -> Report;
     fn busdekker_sheet(text: *const u8, length: usize) -> Report;
     fn busdekker_write(search: *const Search, buffer: *mut u8, size: usize) -> Written;
+    fn busdekker_panel(
+        search: *mut Search,
+        request: *const u8,
+        length: usize,
+        reply: *mut u8,
+        size: usize,
+    ) -> Written;
     fn busdekker_dispatch_fresh() -> Dispatcher;
     fn busdekker_dispatch_turn(dispatcher: *const Dispatcher) -> u32;
     fn busdekker_dispatch_open(dispatcher: *mut Dispatcher, dryer: u32, opening: Opening)
@@ -86,6 +93,16 @@ pub fn write(search: &Search, buffer: &mut [u8]) -> Written {
     // The reference is to a whole search, which is only read. The pointer and the length are those
     // of a slice that nobody else reads or writes.
     unsafe { busdekker_write(search, buffer.as_mut_ptr(), buffer.len()) }
+}
+
+/// A panel's request answered from the host's own search, the reply written at the beginning of its
+/// buffer.
+pub fn panel(search: &mut Search, request: &[u8], reply: &mut [u8]) -> Written {
+    let (length, size) = (request.len(), reply.len());
+    // The reference is to a whole search that nobody else reads or writes. The pointers and the
+    // lengths are those of two slices: the first is only read, and the second nobody else reads or
+    // writes.
+    unsafe { busdekker_panel(search, request.as_ptr(), length, reply.as_mut_ptr(), size) }
 }
 
 /// A fresh dispatcher.

@@ -12,7 +12,7 @@ use compare::model::{self, Book};
 use compare::oven::dispatchers;
 use compare::rng::Rng;
 use compare::types::{Opening, Report, Search};
-use compare::{beam, ffi, old_default, shares, sheets};
+use compare::{beam, ffi, old_default, panel, panel_runs, shares, sheets};
 use std::process::ExitCode;
 use std::time::Instant;
 
@@ -60,7 +60,7 @@ fn main() -> ExitCode {
 /// All parts in turn, and the number of cases.
 fn compare(rng: &mut Rng) -> Result<u64, String> {
     let mut cases = 0;
-    let parts: [(&str, Part); 18] = [
+    let parts: [(&str, Part); 20] = [
         ("lists of values", lists),
         ("runs of the trial book, from a fresh search", runs),
         ("calls in a row on searches that hold anything", held),
@@ -82,6 +82,8 @@ fn compare(rng: &mut Rng) -> Result<u64, String> {
         ("old searches changed over", old_default::searches),
         ("old sheets, made new", old_default::texts),
         ("openings with the house default", old_default::house),
+        ("requests to the panel", panel::requests),
+        ("requests to the panel, in runs", panel_runs::runs),
     ];
     for (name, part) in parts {
         let start = Instant::now();

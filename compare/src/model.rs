@@ -542,7 +542,7 @@ pub fn write(search: &Search, buffer: &mut [u8]) -> Written {
         return Written::refuse(13, 0);
     }
     buffer[..sheet.len()].copy_from_slice(&sheet);
-    Written::sheet(sheet.len() as u32)
+    Written::bytes(sheet.len() as u32)
 }
 
 /// What the program `clean` writes for a text: the clean sheet of the search that it is, or the

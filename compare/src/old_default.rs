@@ -2,7 +2,7 @@
 //! old searches and old sheets, which are changed over, and on openings with method 0 today.
 
 use crate::cases;
-use crate::checks::{agree, agree_on_report, list_as_sheet, Checked, Tally};
+use crate::checks::{agree, agree_on_report, list_as_sheet, Checked, Kinds, Tally};
 use crate::clean::{with_junk, written};
 use crate::model::{self, Book, Reading, OLD, TODAY};
 use crate::rng::Rng;
@@ -26,38 +26,8 @@ const SPELT: usize = 50_000;
 const LISTS: usize = 150_000;
 const RUNS: usize = 10_000;
 
-/// Each kind of case must come so often at least.
-const LEAST: u64 = 500;
-
 /// Old searches and sheets were asked by M under method 0. Some here are asked by R.
 const READINGS: [Reading; 3] = [OLD, OLD, TODAY];
-
-/// How often each kind of case came.
-struct Kinds(Vec<(&'static str, u64)>);
-
-impl Kinds {
-    fn new(names: &[&'static str]) -> Self {
-        Kinds(names.iter().map(|&name| (name, 0)).collect())
-    }
-
-    fn count(&mut self, kind: &str) {
-        let found = self.0.iter_mut().find(|(name, _)| *name == kind);
-        found.expect("each kind has been named").1 += 1;
-    }
-
-    /// Tells them all. One that came too seldom is a mismatch.
-    fn all_came(&self, of: &str) -> Checked {
-        let kinds = self.0.iter();
-        let told: Vec<String> = kinds.map(|(name, n)| format!("{name} {n}")).collect();
-        println!("{of}: {}", told.join(", "));
-        for (name, n) in &self.0 {
-            agree(true, *n >= LEAST, || {
-                format!("{of}: {name} came {n} times, to be at least {LEAST}")
-            })?;
-        }
-        Ok(())
-    }
-}
 
 /// What the old reading tells of a search or a sheet, and today's beside it.
 const BOTH: [&str; 10] = [

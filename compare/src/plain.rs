@@ -3,7 +3,7 @@
 
 use crate::types::{
     Answer, Answered, Dispatcher, Opening, Quotation, Report, Search, Written, DRYERS,
-    LONGEST_CLEAN_SHEET, NOBODY, SLOTS,
+    LONGEST_CLEAN_SHEET, LONGEST_REPLY, NOBODY, REGISTERS, SLOTS,
 };
 
 const HIGHEST_POINT: i32 = 60_000;
@@ -12,6 +12,8 @@ const LARGEST_SHARE: i32 = 100;
 const LARGEST_VALUE: i32 = 10_000;
 const LONGEST_TEXT: usize = 4_096;
 const SERVED_CEILING: u32 = 1_000_000_000;
+const LARGEST_QUANTITY: usize = 125;
+const VALUE_ENTRY: u16 = 6;
 
 /// A point and its value.
 #[derive(Clone, Copy, PartialEq, Eq, Hash)]
@@ -479,7 +481,7 @@ pub fn write(search: &Search, buffer: &mut [u8]) -> Written {
     match buffer.get_mut(..length) {
         Some(sheet) => {
             sheet.copy_from_slice(&text[..length]);
-            Written::sheet(length as u32)
+            Written::bytes(length as u32)
         }
         None => Written::refuse(13, 0),
     }
@@ -563,6 +565,85 @@ fn digits(size: u32) -> usize {
         1_000..=9_999 => 4,
         _ => 5,
     }
+}
+
+/// A panel's request answered from the host's own search, the reply written at the beginning of its
+/// buffer.
+pub fn panel(search: &mut Search, request: &[u8], buffer: &mut [u8]) -> Written {
+    let Some(reply) = buffer.first_chunk_mut() else {
+        return Written::refuse(18, 0);
+    };
+    let Some(function) = request.first() else {
+        return Written::bytes(0);
+    };
+    let length = answer(search, request, reply).unwrap_or_else(|exception| {
+        [reply[0], reply[1]] = [function | 0x80, exception];
+        2
+    });
+    Written::bytes(length as u32)
+}
+
+/// The reply to a request that is not empty and its length, or the exception's number.
+fn answer(
+    search: &mut Search,
+    request: &[u8],
+    reply: &mut [u8; LONGEST_REPLY],
+) -> Result<usize, u8> {
+    let walk = held(search).map_err(|_| 4)?;
+    let function = request[0];
+    if function != 3 && function != 6 {
+        return Err(1);
+    }
+    let &[_, a, b, c, d] = request else {
+        return Err(3);
+    };
+    let address = u16::from_be_bytes([a, b]);
+    if function == 3 {
+        let quantity = u16::from_be_bytes([c, d]).into();
+        return show(&walk.report(), address.into(), quantity, reply);
+    }
+    if address != VALUE_ENTRY {
+        return Err(2);
+    }
+    let (point, value) = (walk.call as i32, i16::from_be_bytes([c, d]).into());
+    if offer(search, walk, point, value).kind == Report::REFUSED {
+        return Err(3);
+    }
+    reply[..request.len()].copy_from_slice(request);
+    Ok(request.len())
+}
+
+/// The reply to a read and its length, or the exception's number.
+fn show(
+    report: &Report,
+    address: usize,
+    quantity: usize,
+    reply: &mut [u8; LONGEST_REPLY],
+) -> Result<usize, u8> {
+    if !(1..=LARGEST_QUANTITY).contains(&quantity) {
+        return Err(3);
+    }
+    let registers = registers(report);
+    let read = registers.get(address..address + quantity).ok_or(2)?;
+    [reply[0], reply[1]] = [3, 2 * quantity as u8];
+    for (word, register) in reply[2..].chunks_exact_mut(2).zip(read) {
+        word.copy_from_slice(&register.to_be_bytes());
+    }
+    Ok(2 + 2 * quantity)
+}
+
+/// The registers of a search that reports so. A number that the report's kind has not is 0.
+fn registers(report: &Report) -> [u16; REGISTERS] {
+    let flags = if report.kind == Report::NEXT { 1 } else { 2 };
+    [
+        flags,
+        report.point as u16,
+        report.lower as u16,
+        report.upper as u16,
+        report.better as u16,
+        report.taken as u16,
+        0,
+    ]
 }
 
 /// The dryer that has the oven's turn, with the walk of its search.

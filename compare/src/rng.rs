@@ -47,4 +47,9 @@ impl Rng {
     pub fn any(&mut self) -> i32 {
         self.bits() as i32
     }
+
+    /// So many bytes of any kind.
+    pub fn bytes(&mut self, length: usize) -> Vec<u8> {
+        (0..length).map(|_| self.bits() as u8).collect()
+    }
 }

@@ -16,6 +16,13 @@ pub const NOBODY: u32 = 6;
 /// answer.
 pub const LONGEST_CLEAN_SHEET: usize = 24 + 14 * SLOTS;
 
+/// The registers that a panel reads of a search.
+pub const REGISTERS: usize = 7;
+
+/// The bytes that every reply to a panel fits in: the function, the number of bytes, and two for each
+/// register.
+pub const LONGEST_REPLY: usize = 2 + 2 * REGISTERS;
+
 /// An opening: method, x0, x1, τ and p, each as it was offered.
 #[repr(C)]
 #[derive(Clone, Copy, Debug, PartialEq, Eq)]
@@ -218,8 +225,8 @@ impl Quotation {
     }
 }
 
-/// What is told of a sheet that is to be written: its length, or a refusal. A number that its kind
-/// has not is 0.
+/// What is told of a sheet or a reply that is to be written: its length, or a refusal. A number that
+/// its kind has not is 0.
 #[repr(C)]
 #[derive(Clone, Copy, Debug, PartialEq, Eq)]
 pub struct Written {
@@ -232,7 +239,7 @@ pub struct Written {
 impl Written {
     pub const WRITTEN: u32 = 5;
 
-    pub const fn sheet(length: u32) -> Self {
+    pub const fn bytes(length: u32) -> Self {
         Written {
             kind: Self::WRITTEN,
             length,

@@ -512,10 +512,10 @@ fn clean_trial(search: &Search, sheet: &str) {
     let length = sheet.len();
     for write in WRITERS {
         let mut longer = vec![b'#'; length + 3];
-        assert_eq!(write(search, &mut longer), Written::sheet(length as u32));
+        assert_eq!(write(search, &mut longer), Written::bytes(length as u32));
         assert_eq!(longer, format!("{sheet}###").as_bytes());
         let mut just = vec![b'#'; length];
-        assert_eq!(write(search, &mut just), Written::sheet(length as u32));
+        assert_eq!(write(search, &mut just), Written::bytes(length as u32));
         assert_eq!(just, sheet.as_bytes());
         let mut shorter = vec![b'#'; length - 1];
         assert_eq!(write(search, &mut shorter), Written::refuse(13, 0));

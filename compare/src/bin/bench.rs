@@ -5,8 +5,9 @@
 use compare::rng::Rng;
 use compare::types::{
     Answer, Answered, Dispatcher, Opening, Report, Search, Written, DRYERS, LONGEST_CLEAN_SHEET,
+    LONGEST_REPLY,
 };
-use compare::{beam, cases, ffi, model, plain, sheets};
+use compare::{beam, cases, ffi, model, plain, requests, sheets};
 use std::hint::black_box;
 use std::time::Instant;
 
@@ -59,6 +60,7 @@ struct Calls {
     values: fn(&Opening, &[i32]) -> Report,
     sheet: fn(&[u8]) -> Report,
     write: fn(&Search, &mut [u8]) -> Written,
+    panel: fn(&mut Search, &[u8], &mut [u8]) -> Written,
     dispatch_enter: fn(&mut Dispatcher, u32, Answer) -> Report,
     dispatch_turn: fn(&Dispatcher) -> u32,
 }
@@ -69,6 +71,7 @@ const LIBRARY: Calls = Calls {
     values: ffi::values,
     sheet: ffi::sheet,
     write: ffi::write,
+    panel: ffi::panel,
     dispatch_enter: ffi::dispatch_enter,
     dispatch_turn: ffi::dispatch_turn,
 };
@@ -79,6 +82,7 @@ const PLAIN: Calls = Calls {
     values: plain::values,
     sheet: plain::sheet,
     write: plain::write,
+    panel: plain::panel,
     dispatch_enter: plain::dispatch_enter,
     dispatch_turn: plain::dispatch_turn,
 };
@@ -96,7 +100,7 @@ const BEFORE: [usize; 6] = [2, 10, 20, 40, 60, 69];
 fn main() {
     println!("bench: seed {SEED}; what answers is {}", ffi::WHO);
     println!("Median of {REPETITIONS} repetitions of each, library and plain.rs by turns.");
-    println!("Buffers (searches, lists, sheets) are prepared before and outside the timed part.");
+    println!("Buffers (searches, lists, sheets, requests) are prepared before and outside the timed part.");
     println!(
         "An answer is entered into a search that holds the ones before it, each walked again."
     );
@@ -105,6 +109,7 @@ fn main() {
     let works = usual(USUAL, |_| 0, &mut rng);
     table("usual searches", &works);
     dispatchers(&works);
+    panels(&works);
     let long = long(&mut rng);
     table("long searches", &long);
     println!("an answer into the host's search, by the answers that it holds already:");
@@ -199,6 +204,38 @@ fn morning(works: &[Work]) -> (Morning, Dispatcher) {
     ((start, offers), halfway)
 }
 
+/// A search, and the requests to it, one after the other.
+type Shift = (Search, Vec<[u8; 5]>);
+
+/// Two lines: the works as the searches of panels.
+fn panels(works: &[Work]) {
+    let entries: Vec<Shift> = works.iter().map(entries).collect();
+    let reads: Vec<Shift> = works.iter().map(read_half_way).collect();
+    println!("{} panels, with one of them at each:", works.len());
+    let all: usize = works.iter().map(|work| work.values.len()).sum();
+    let timed = |calls, _: &[Work]| requesting(calls, entries.clone());
+    line("  an answer, through its panel", works, all, &timed);
+    let timed = |calls, _: &[Work]| requesting(calls, reads.clone());
+    line(
+        "  all seven registers, half-way",
+        works,
+        works.len(),
+        &timed,
+    );
+}
+
+/// A fresh search, and a request for each of its answers.
+fn entries(work: &Work) -> Shift {
+    let requests = work.values.iter().map(|&value| requests::enter(value));
+    (Search::fresh(work.opening), requests.collect())
+}
+
+/// The search with half of its answers, and the request to read all registers.
+fn read_half_way(work: &Work) -> Shift {
+    let search = work.holding(work.values.len() / 2);
+    (search, vec![requests::READ_ALL])
+}
+
 /// How the cost of an answer, entered into the host's search, grows with the answers before it.
 fn growth(name: &str, works: &[Work]) {
     for before in BEFORE {
@@ -284,6 +321,24 @@ fn asking(calls: Calls, dispatchers: &[Dispatcher]) -> f64 {
         black_box((calls.dispatch_turn)(black_box(dispatcher)));
     }
     start.elapsed().as_nanos() as f64
+}
+
+/// Every request to every panel. All replies go into one buffer, one after the other.
+fn requesting(calls: Calls, mut shifts: Vec<Shift>) -> f64 {
+    let mut buffer = [0; LONGEST_REPLY];
+    let start = Instant::now();
+    for (search, requests) in &mut shifts {
+        for request in requests {
+            black_box((calls.panel)(
+                search,
+                black_box(&*request),
+                black_box(&mut buffer),
+            ));
+        }
+    }
+    let time = start.elapsed();
+    black_box((&shifts, &buffer));
+    time.as_nanos() as f64
 }
 
 /// Each answer entered into its search, the host's own.
