@@ -2,22 +2,21 @@
 -- the search accepts can be entered.
 -- Assumes nothing.
 use Prim.Native.Nat.{ℕ, zero, suc, _+_, _-_, _*_, _/_, _%_, _≤_, _<_}
-use mathlib.Core.Path.{_≡_, refl, sym, ap, subst, _∙_}
+use mathlib.Core.Path.{_≡_, refl, sym, ap, _∙_}
 use mathlib.Core.Bool.{Bool, true, false, cond, not, _&&_}
 use mathlib.Core.List.{List, [], _∷_}
 use native.Mathlib.Omega.{arith}
 use borrow.Author.Tests.{eqb-true, eqb-false, eq-eqb, ne-eqb, ltb-false, lt-ltb, le-ltb}
 use lib.Dec.{eqb, leb, ltb}
 use lib.IntN.{ℤ, pos, negsuc, natAbs}
-use lib.ListN.{length, take, drop, getD}
+use lib.ListN.{length, drop, getD}
 use lib.Seq.{getD-take, getD-drop}
 use Rattle.integers.specs.SignsLaws.{never}
 use Rattle.rules.specs.Rules.{largestValue}
-use Rattle.rules.specs.Search.{isRefused, otherAt, isRefusal, reportAt}
+use Rattle.rules.specs.Search.{isRefused, otherAt, isRefusal}
 use Rattle.rules.specs.SearchLaws.{Taken, taken-is, refusal-is}
 use Rattle.held.specs.declared.Search.{Search}
-use Rattle.held.specs.declared.Entered.{Entered}
-use Rattle.held.specs.Held.{standingOf, heldReport, withValue, triedOf, enterOf}
+use Rattle.held.specs.Held.{standingOf, heldReport, triedOf, enterOf}
 use Rattle.registers.specs.Registers.{registersOf, registers, entryRegister, calledFor}
 use Rattle.registers.specs.Exchange.{readHolding, writeSingle, mostAsked, functionOf, wordAt, addressOf, quantityOf, signedOf, valueOf, entryOf}
 use Rattle.registers.specs.Exchange.{illegalFunction, illegalAddress, illegalValue, deviceFailure, wrongLength, readFault, writeFault, faultOf}

@@ -1,7 +1,7 @@
 -- The laws of the registers: there are seven, and each fits 16 bits, because points stay within limits and no search takes more answers than it
 -- has slots.
 -- Assumes nothing.
-use Prim.Native.Nat.{ℕ, _≤_}
+use Prim.Native.Nat.{_≤_}
 use mathlib.Core.Path.{_≡_, refl}
 use mathlib.Core.Bool.{Bool, true, false, cond}
 use native.Mathlib.Omega.{arith}

@@ -35,15 +35,21 @@ returns-4 : tie.Need-returns-4
 unfolding readFault
 returns-4 c =
     let a = c .before .word-at2 .ensures in
-    let q = c .before .before .before .before .word-at .ensures in
-    simp (c .before .before .before .before .before .if1 .left, le-leb _ _ (rw (q .0) at (c .before .before .before .if2 .left)), le-leb _ _ (rw (q .0) at (c .before .before .if3 .left)), lt-ltb _ _ (rw (a .0, q .0) at (c .if4 .taken)))
+    let d = c .before .before in
+    let q = d .before .before .word-at .ensures in
+    let some = le-leb _ _ (rw (q .0) at (d .before .if2 .left)) in
+    let few = le-leb _ _ (rw (q .0) at (d .if3 .left)) in
+    simp (d .before .before .before .if1 .left, some, few, lt-ltb _ _ (rw (a .0, q .0) at (c .if4 .taken)))
 
 returns-5 : tie.Need-returns-5
 unfolding readFault
 returns-5 c =
     let a = c .before .word-at2 .ensures in
-    let q = c .before .before .before .before .word-at .ensures in
-    simp (c .before .before .before .before .before .if1 .left, le-leb _ _ (rw (q .0) at (c .before .before .before .if2 .left)), le-leb _ _ (rw (q .0) at (c .before .before .if3 .left)), le-ltb _ _ (rw (a .0, q .0) at (c .if4 .left)))
+    let d = c .before .before in
+    let q = d .before .before .word-at .ensures in
+    let some = le-leb _ _ (rw (q .0) at (d .before .if2 .left)) in
+    let few = le-leb _ _ (rw (q .0) at (d .if3 .left)) in
+    simp (d .before .before .before .if1 .left, some, few, le-ltb _ _ (rw (a .0, q .0) at (c .if4 .left)))
 
 pub read-fault-spec : {M : Type 1} → statement M
 read-fault-spec =

@@ -28,7 +28,9 @@ cast-result-2 : tie.Need-cast-result-2
 cast-result-2 c = search needs
 
 sub-result : tie.Need-sub-result
-sub-result c = rw (difference c) (within-fits (within-difference {a = c .before .args .word} {b = 65536} {k = 65536} (omega (arith, c .before .pre)) (omega arith)) tt)
+sub-result c =
+    let within = within-difference {a = c .before .args .word} {b = 65536} {k = 65536} (omega (arith, c .before .pre)) (omega arith) in
+    rw (difference c) (within-fits within tt)
 
 returns-2 : tie.Need-returns-2
 unfolding signedOf

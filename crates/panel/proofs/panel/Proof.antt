@@ -66,4 +66,14 @@ returns-2 c =
     )
 
 pub panel-spec : {M : Type 1} → statement M
-panel-spec = tie.close (tie.spec returns respond-requires array-share-prefix-bytes slice-aggregate-place-text place-text-requires cast-length same-length returns-2)
+panel-spec =
+    tie.close
+    (tie.spec
+    returns
+    respond-requires
+    array-share-prefix-bytes
+    slice-aggregate-place-text
+    place-text-requires
+    cast-length
+    same-length
+    returns-2)

@@ -16,7 +16,6 @@ use Rattle.registers.specs.Registers.{registersAt, registersOf}
 use Rattle.registers.specs.RegistersLaws.{Limited, held-limited}
 use Rattle.registers.specs.ExchangeLaws.{readTold, empty-exchange, refused-exchange, other-exchange, read-exchange, write-exchange}
 use Rattle.modbus.specs.Reply.{Holds}
-use Rattle.panel.specs.Told.{Tells}
 use Rattle.panel.proofs.respond.Statement.{statement}
 use Rattle.panel.proofs.respond.Tie as tie
 
@@ -95,7 +94,8 @@ returns-4 : tie.Need-returns-4
 returns-4 c =
     let w = c .before .before .before in
     let r = w .before .before .before in
-    rw (write-exchange (search-at r) (request-at r) (some r) (fine (w .before)) (ne-eqb _ _ (c .before .before .if3 .left)) (eq-eqb _ _ (c .before .if4 .taken)))
+    let other = ne-eqb _ _ (c .before .before .if3 .left) in
+    rw (write-exchange (search-at r) (request-at r) (some r) (fine (w .before)) other (eq-eqb _ _ (c .before .if4 .taken)))
     (c .write .ensures)
 
 exception-requires-2 : tie.Need-exception-requires-2
@@ -105,7 +105,8 @@ returns-5 : tie.Need-returns-5
 returns-5 c =
     let w = c .before .before .before in
     let r = w .before .before .before in
-    rw (other-exchange (search-at r) (request-at r) (some r) (fine (w .before)) (ne-eqb _ _ (c .before .before .if3 .left)) (ne-eqb _ _ (c .before .if4 .left)))
+    let other = ne-eqb _ _ (c .before .before .if3 .left) in
+    rw (other-exchange (search-at r) (request-at r) (some r) (fine (w .before)) other (ne-eqb _ _ (c .before .if4 .left)))
     (record { reply = c .exception2 .ensures; search = refl })
 
 pub respond-spec : {M : Type 1} → statement M

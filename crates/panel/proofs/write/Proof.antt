@@ -1,6 +1,7 @@
 -- `panel::write` meets its contract: a request that is misplaced, a value that the search refuses, or an entry.
 -- Assumes nothing.
-use Prim.Native.Nat.{_<_, _^_}
+use Prim.Native.Nat.{ℕ, _<_, _^_}
+use mathlib.Core.List.{List}
 use mir.Syntax.{w32}
 use mir.Facts.{toZ-pos}
 use Rattle.integers.specs.Bounds.{read}
@@ -11,6 +12,7 @@ use native.Mathlib.Omega.{arith}
 use borrow.Author.Needs.{needs}
 use borrow.Author.Tests.{eq-eqb, ne-eqb}
 use Rattle.rules.specs.Search.{isRefusal}
+use Rattle.held.specs.declared.Search.{Search}
 use Rattle.held.specs.declared.Entered.{Entered}
 use Rattle.registers.specs.Exchange.{entryOf}
 use Rattle.registers.specs.ExchangeLaws.{placeFault, Writable, writable, write-misplaced, write-refused, write-accepted}
@@ -47,8 +49,16 @@ cast-enter c = search needs
 enter-requires : tie.Need-enter-requires
 enter-requires c κs = search needs
 
+abbrev search-at : tie.After-enter → Search
+search-at c = c .before .before .before .before .before .before .args .search
+
+abbrev request-at : tie.After-enter → List ℕ
+request-at c = c .before .before .before .before .before .before .args .request .now
+
 -- what the search makes of the value
-entered : (c : tie.After-enter) → c .enter .result ≡ entryOf (c .before .before .before .before .before .before .args .search) (c .before .before .before .before .before .before .args .request .now)
+entered : (c : tie.After-enter)
+    → c .enter .result ≡ entryOf (c .before .before .before .before .before .before .args .search)
+    (c .before .before .before .before .before .before .args .request .now)
 unfolding entryOf
 entered c =
     let s = c .before .before .before .before .before .before in
@@ -58,7 +68,7 @@ entered c =
     ∙ rw (s .pre, v .ensures, c .before .before .word-at .ensures .0)
 
 -- the request was neither too long, too short nor misplaced
-well-placed : (c : tie.After-enter) → eqb (placeFault (c .before .before .before .before .before .before .args .request .now)) 0 ≡ true
+well-placed : (c : tie.After-enter) → eqb (placeFault (request-at c)) 0 ≡ true
 well-placed c = eq-eqb _ _ (sym (c .before .before .before .before .place-fault .ensures) ∙ c .before .before .before .if1 .left)
 
 is-refusal-requires : tie.Need-is-refusal-requires
@@ -70,11 +80,10 @@ exception-requires-2 c κs = search needs
 returns-2 : tie.Need-returns-2
 returns-2 c =
     let e = c .before .before .before in
-    let s = e .before .before .before .before .before .before .args in
-    let refused : isRefusal (entryOf (s .search) (s .request .now) .report) ≡ true =
-    subst (λ (r : Entered). isRefusal (r .report) ≡ true) (entered e) (sym (c .before .before .is-refusal .ensures) ∙ c .before .if2 .taken) in
-    subst (Tells (record { reply = c .exception2 .result; search = s .search }))
-    (write-refused (s .search) (s .request .now) (well-placed e) refused)
+    let said = sym (c .before .before .is-refusal .ensures) ∙ c .before .if2 .taken in
+    let refused : isRefusal (entryOf (search-at e) (request-at e) .report) ≡ true = subst (λ (r : Entered). isRefusal (r .report) ≡ true) (entered e) said in
+    subst (Tells (record { reply = c .exception2 .result; search = search-at e }))
+    (write-refused (search-at e) (request-at e) (well-placed e) refused)
     (record { reply = c .exception2 .ensures; search = refl })
 
 echo-requires : tie.Need-echo-requires
@@ -83,11 +92,10 @@ echo-requires c κs = writable-at (c .before .before .before .before .before .be
 returns-3 : tie.Need-returns-3
 returns-3 c =
     let e = c .before .before .before .before in
-    let s = e .before .before .before .before .before .before .args in
-    let accepted : isRefusal (entryOf (s .search) (s .request .now) .report) ≡ false =
-    subst (λ (r : Entered). isRefusal (r .report) ≡ false) (entered e) (sym (c .before .before .before .is-refusal .ensures) ∙ c .before .before .if2 .left) in
+    let said = sym (c .before .before .before .is-refusal .ensures) ∙ c .before .before .if2 .left in
+    let fine : isRefusal (entryOf (search-at e) (request-at e) .report) ≡ false = subst (λ (r : Entered). isRefusal (r .report) ≡ false) (entered e) said in
     subst (Tells (record { reply = c .echo .result; search = e .enter .result .search }))
-    (write-accepted (s .search) (s .request .now) (well-placed e) accepted)
+    (write-accepted (search-at e) (request-at e) (well-placed e) fine)
     (record { reply = c .echo .ensures; search = ap (λ (r : Entered). r .search) (entered e) })
 
 pub write-spec : {M : Type 1} → statement M
