@@ -310,7 +310,9 @@ struct busdekker_report busdekker_change_over(struct busdekker_search *search);
 
 /*
  * Answers one Modbus request to *search, as a server's reply. Request and reply are protocol data units, without address or check bytes, laid out
- * by the Modbus Application Protocol: the function, then words of two bytes, the high one first. The registers, by their addresses:
+ * by the Modbus Application Protocol: a word is two bytes, the high one first. A request is five bytes, the function and two words: 03, the address
+ * of the first register and the quantity of registers to read, or 06, the address of a register and the value to write. The reply to 03 is the
+ * function, a byte that counts those after it, and a word for each register; the reply to 06 is the request. The registers, by their addresses:
  *
  *   0  flags: bit 0 (1), a value is awaited; bit 1 (2), stopped
  *   1  the point called for, 0 after the stop
@@ -318,9 +320,9 @@ struct busdekker_report busdekker_change_over(struct busdekker_search *search);
  *   5  the number of answers taken
  *   6  value entry: reads as 0
  *
- * Registers 0 to 5 are unsigned: a point may be up to 60,000. The value written to register 6 is signed.
- * Function 03 reads, and never alters *search. Function 06 to register 6 enters a value, as a two's complement word, for the point called for:
- * *search is then what busdekker_enter leaves, and the reply is the request. Nothing else alters *search. The first of these that applies is told:
+ * Registers 0 to 5 are unsigned: a point may be up to 60,000. The value written to register 6 is signed, a two's complement word, and is entered for
+ * the point called for: *search is then what busdekker_enter leaves. Nothing else alters it, though its numbers may be stored again in every call,
+ * and they are the same. The first of these that applies is told:
  *
  *   an empty request gets an empty reply, of length 0
  *   exception 04  busdekker_ask refuses *search
@@ -329,11 +331,13 @@ struct busdekker_report busdekker_change_over(struct busdekker_search *search);
  *   exception 02  a read goes past register 6, or a write to another register than 6
  *   exception 03  busdekker_enter would refuse the value: it is out of range (7), on the side of the first (8), or the search has stopped (5)
  *
- * An exception's reply is two bytes: the function with its top bit set, and the number of the exception.
+ * An exception's reply is two bytes: the function with its top bit set, and the number of the exception. It is a reply like any other
+ * (BUSDEKKER_WRITTEN, length 2); that a value was not entered shows in the top bit of the reply's first byte.
  * `request` points to `length` bytes, any number of them, which are read and not written, and `reply` to `size` bytes that nobody else reads or
  * writes while the call runs: a buffer of its own, no part of *search, and no part of the request. Neither pointer is null, even where its number
  * of bytes is 0. The reply stands at the beginning of the buffer, and bytes past it keep their contents. The request is no part of *search.
- * A refusal (18, place 0) is told before all else where `size` is below BUSDEKKER_LONGEST_REPLY: nothing is written, and *search stays.
+ * A refusal (18, place 0) is told before all else where `size` is below BUSDEKKER_LONGEST_REPLY: nothing is written into the buffer, and *search
+ * stays as it was.
  * While nothing else writes it, a search opened by busdekker_open is at every moment the one of the values that the panel's requests entered. A
  * dispatcher's search is not for a panel: what it enters there would be served to no dryer, out of turn and not counted.
  */

@@ -170,13 +170,16 @@ static bool excepts(busdekker_search *search) {
     same = same && replies(search, bytes({3, 0, 1, 0, 7}), bytes({131, 2})) && replies(search, bytes({6, 0, 5, 0, 1}), bytes({134, 2}));
     same = same && replies(search, bytes({6, 0, 6, 39, 17}), bytes({134, 3})) && replies(search, bytes({6, 0, 6, 0}), bytes({134, 3}));
     const uint8_t entry[] = {6, 0, 6, 0, 1};
-    uint8_t buffer[BUSDEKKER_LONGEST_REPLY - 1] = {0}, untouched[BUSDEKKER_LONGEST_REPLY - 1] = {0};
+    uint8_t buffer[BUSDEKKER_LONGEST_REPLY - 1], untouched[sizeof buffer];
+    std::memset(buffer, 9, sizeof buffer);
+    std::memset(untouched, 9, sizeof untouched);
     const busdekker_written refused = busdekker_panel(search, entry, sizeof entry, buffer, sizeof buffer);
     same = same && refused.kind == BUSDEKKER_REFUSED && refused.number == BUSDEKKER_REPLY_TOO_SHORT && refused.place == 0 && refused.length == 0;
     return same && std::memcmp(buffer, untouched, sizeof buffer) == 0 && std::memcmp(search, &before, sizeof before) == 0;
 }
 
 // The panel: a search from 0 to 100 is read, takes -50, 100, -10, -2 and 1, and is read at its stop. One that is itself refused gets exception 04.
+// One at the highest points stops with the lower end as the better one.
 static bool serves_a_panel() {
     const std::string all = bytes({3, 0, 0, 0, BUSDEKKER_REGISTERS}), last = bytes({6, 0, 6, 0, 1});
     busdekker_search search;
@@ -189,7 +192,10 @@ static bool serves_a_panel() {
     same = same && replies(&search, last, last) && search.count == 5 && busdekker_ask(&search).kind == BUSDEKKER_STOP;
     same = same && replies(&search, all, bytes({3, 14, 0, 2, 0, 0, 0, 41, 0, 43, 0, 43, 0, 5, 0, 0})) && replies(&search, last, bytes({134, 3}));
     search.opening.method = 3;
-    return same && replies(&search, all, bytes({131, 4})) && replies(&search, bytes({4}), bytes({132, 4})) && replies(&search, "", "");
+    same = same && replies(&search, all, bytes({131, 4})) && replies(&search, bytes({4}), bytes({132, 4})) && replies(&search, "", "");
+    same = same && busdekker_open(&search, {BUSDEKKER_M, highest, highest - 2, 1, 0}).kind == BUSDEKKER_NEXT;
+    same = same && replies(&search, bytes({6, 0, 6, 255, 254}), bytes({6, 0, 6, 255, 254})) && replies(&search, last, last);
+    return same && replies(&search, bytes({3, 0, 2, 0, 3}), bytes({3, 6, 234, 94, 234, 96, 234, 94}));
 }
 
 // The calls on a dispatcher: dryers 4 and 1 are opened, 1 has the turn first, and then 4.

@@ -5,7 +5,7 @@ ghost use Prim.Native.Nat.{_+_, _<_};
 ghost use mathlib.Core.List.{[]};
 ghost use lib.ListN.{length};
 ghost use Rattle.registers.specs.Exchange.{wordAt, signedOf, readFault, topBitSet, exceptionReply, echoReply};
-ghost use Rattle.registers.specs.ExchangeLaws.{placeFault, Writable};
+ghost use Rattle.registers.specs.Inner.{formFault, Writable};
 ghost use Rattle.modbus.specs.Reply.{Holds};
 
 // A reply: its first `len` bytes.
@@ -53,15 +53,16 @@ pub fn read_fault(request: &[u8]) -> u8
         return registers::ILLEGAL_VALUE;
     }
     let address = word_at(request, 1);
-    if registers::REGISTERS < address + quantity {
+    let end = (address + quantity) as usize;
+    if registers::REGISTERS < end {
         return registers::ILLEGAL_ADDRESS;
     }
     0
 }
 
 // A write: a wrong length, an address other than register 6.
-pub fn place_fault(request: &[u8]) -> u8
-    ensures { λ r. ⌜ r ≡ placeFault (now (request .entry)) ⌝ }
+pub fn form_fault(request: &[u8]) -> u8
+    ensures { λ r. ⌜ r ≡ formFault (now (request .entry)) ⌝ }
 {
     if request.len() != registers::REQUEST_LENGTH {
         return registers::ILLEGAL_VALUE;

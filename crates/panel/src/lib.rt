@@ -3,7 +3,7 @@ ghost use mathlib.Core.Path.{_≡_};
 ghost use Rattle.registers.specs.Registers.{calledFor};
 ghost use Rattle.registers.specs.Exchange.{exchangeOf, exchangedOf, replyBuffer};
 ghost use Rattle.registers.specs.Claims.{PanelExchange, EveryValue, EveryPanelRun, EveryFreshPanelRun};
-ghost use Rattle.registers.specs.ExchangeLaws.{writeTold};
+ghost use Rattle.registers.specs.Inner.{writeTold};
 ghost use Rattle.panel.specs.Told.{Tells};
 use held::Search;
 use modbus::Reply;
@@ -21,7 +21,7 @@ fn write(search: Search, point: u16, request: &[u8]) -> Told
     requires { ⌜ point ≡ calledFor search ⌝ }
     ensures { λ r. ⌜ Tells r (writeTold search (now (request .entry))) ⌝ }
 {
-    let fault = modbus::place_fault(request);
+    let fault = modbus::form_fault(request);
     if fault != 0 {
         return Told {
             reply: modbus::exception(registers::WRITE_SINGLE, fault),
@@ -70,7 +70,7 @@ fn respond(search: Search, request: &[u8]) -> Told
         };
     }
     if function == registers::WRITE_SINGLE {
-        return write(search, words[1], request);
+        return write(search, words[registers::POINT_REGISTER], request);
     }
     Told {
         reply: modbus::exception(function, registers::ILLEGAL_FUNCTION),

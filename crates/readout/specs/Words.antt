@@ -7,9 +7,10 @@ use native.Mathlib.Numerals.{add-one}
 use native.Mathlib.Omega.{arith}
 use lib.ListN.{length, take, drop, getD, set, length-set, replicate, drop-of-length-le}
 use lib.Seq.{take-suc-set, append-snoc, drop-cons}
-use Rattle.registers.specs.Registers.{registers}
+use Rattle.registers.specs.Registers.{registerCount}
 use Rattle.registers.specs.Exchange.{readHolding, addressOf, quantityOf, wordBytes, partOf, readReply, longestReply}
-use Rattle.registers.specs.ExchangeLaws.{Readable, part-length}
+use Rattle.registers.specs.Inner.{Readable}
+use Rattle.registers.specs.ExchangeLaws.{part-length}
 use Rattle.modbus.specs.declared.Reply.{Reply}
 use Rattle.modbus.specs.Reply.{Holds}
 
@@ -78,7 +79,7 @@ module _ {r₀ r : Reply} {ws : List ℕ} {i : ℕ} (so-far : SoFar r₀ ws r i)
 abbrev pub begun : ℕ → Reply
 begun n = record { bytes = readHolding ∷ n ∷ replicate 14 0; len = 2 }
 
-pub read-holds : (words request : List ℕ) (a q : ℕ) → length words ≡ registers → Readable request → a ≡ addressOf request → q ≡ quantityOf request
+pub read-holds : (words request : List ℕ) (a q : ℕ) → length words ≡ registerCount → Readable request → a ≡ addressOf request → q ≡ quantityOf request
     → Holds (withWords (begun (2 * q)) (take (a + q - a) (drop a words))) (readReply words request)
 read-holds words request a q long ok e f =
     let n : a + q - a ≡ q = omega arith in

@@ -5,8 +5,7 @@ ghost use Prim.Native.Nat.{_+_, _*_, _≤_};
 ghost use lib.ListN.{length};
 ghost use Rattle.registers.specs.Registers.{registersAt};
 ghost use Rattle.registers.specs.Exchange.{readReply, longestReply};
-ghost use Rattle.registers.specs.RegistersLaws.{Limited};
-ghost use Rattle.registers.specs.ExchangeLaws.{readTold, Readable};
+ghost use Rattle.registers.specs.Inner.{Limited, readTold, Readable};
 ghost use Rattle.modbus.specs.Reply.{Holds};
 ghost use Rattle.readout.specs.Words.{withWord, withWords};
 use modbus::Reply;
@@ -21,7 +20,7 @@ const STOPPED: u16 = 2;
 const NO_POINT: u16 = 0;
 
 // The registers of a report, whose points lie within limits.
-pub fn registers_at(report: Report) -> [u16; 7]
+pub fn registers_at(report: Report) -> [u16; registers::REGISTERS]
     requires { ⌜ Limited report ⌝ }
     ensures { λ r. ⌜ r ≡ registersAt report ⌝ }
 {
@@ -44,7 +43,7 @@ pub fn registers_at(report: Report) -> [u16; 7]
         Report::Refused {
             number: _,
             place: _,
-        } => [0; 7],
+        } => [0; registers::REGISTERS],
     }
 }
 
@@ -76,7 +75,7 @@ fn put_words(reply: Reply, words: &[u16]) -> Reply
 }
 
 // The function, how many bytes follow, and the registers asked for.
-fn read_words(words: [u16; 7], request: &[u8]) -> Reply
+fn read_words(words: [u16; registers::REGISTERS], request: &[u8]) -> Reply
     requires { ⌜ Readable (now request) ⌝ }
     ensures { λ r. ⌜ Holds r (readReply words (now (request .entry))) ⌝ }
 {
@@ -93,7 +92,7 @@ fn read_words(words: [u16; 7], request: &[u8]) -> Reply
 }
 
 // The reply to a request of function 03.
-pub fn read(words: [u16; 7], request: &[u8]) -> Reply
+pub fn read(words: [u16; registers::REGISTERS], request: &[u8]) -> Reply
     ensures { λ r. ⌜ Holds r (readTold words (now (request .entry))) ⌝ }
 {
     let fault = modbus::read_fault(request);

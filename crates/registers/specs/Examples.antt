@@ -1,9 +1,9 @@
--- Exchanges with the panel worked by hand, in lists with one statement each; words, buffers and a run. All hold by computation. The search is
--- document 01's by M from 0 to 100 with τ 1, and values −50, 100, −10, −2, 1.
+-- Exchanges with the panel worked by hand, in lists with one statement each; words, buffers and a run. All hold by computation. Most are with
+-- document 01's search by M from 0 to 100 with τ 1, and values −50, 100, −10, −2, 1.
 -- Assumes nothing.
 use Prim.Native.Nat.{ℕ, _-_}
 use mathlib.Core.Path.{_≡_, refl}
-use mathlib.Core.List.{List, [], _∷_, _++_}
+use mathlib.Core.List.{List, [], _∷_, _++_, map}
 use lib.IntN.{ℤ, pos, negℤ}
 use lib.ListN.{length, replicate}
 use Rattle.rules.specs.declared.Opening.{Opening}
@@ -13,12 +13,13 @@ use Rattle.rules.specs.Refusals.{openingRefusal, answerRefusal, sameSide}
 use Rattle.rules.specs.Search.{beginOf, offerOf, takeOf, progressOf, bracketReport, reportAt}
 use Rattle.held.specs.declared.Search.{Search}
 use Rattle.held.specs.Held.{blank, standingOf, heldReport, enterOf}
+use Rattle.journal.specs.Run.{offered}
 use Rattle.registers.specs.declared.Replied.the-variants.{Reply, Refused}
 use Rattle.registers.specs.declared.Exchanged.{Exchanged}
 use Rattle.registers.specs.Registers.{registersOf}
 use Rattle.registers.specs.Exchange.{signedOf, entryOf, readFault, writeFault, faultOf, topBitSet, wordBytes, exchangeOf, exchangedOf}
 use Rattle.registers.specs.Exchange.{replyBuffer}
-use Rattle.registers.specs.Requests.{entryRequest, searchThen, acceptedIn}
+use Rattle.registers.specs.Requests.{entryRequest, searchThen, acceptedIn, offersIn}
 
 abbrev minus : ℕ → ℤ
 minus n = negℤ (pos n)
@@ -45,6 +46,10 @@ four = holding (minus 50 ∷ pos 100 ∷ minus 10 ∷ minus 2 ∷ [])
 
 abbrev five : Search
 five = holding (minus 50 ∷ pos 100 ∷ minus 10 ∷ minus 2 ∷ pos 1 ∷ [])
+
+-- stopped at 10 to 12, where the better end is the lower
+abbrev short : Search
+short = record { opening = opening 10 12; count = 2; slots = minus 1 ∷ pos 2 ∷ replicate (slots - 2) (pos 0) }
 
 -- 60,000 is called for
 abbrev high : Search
@@ -81,7 +86,8 @@ exchanges =
     tells two (3 ∷ 0 ∷ 0 ∷ 0 ∷ 7 ∷ []) (3 ∷ 14 ∷ 0 ∷ 1 ∷ 0 ∷ 33 ∷ 0 ∷ 0 ∷ 0 ∷ 0 ∷ 0 ∷ 0 ∷ 0 ∷ 2 ∷ 0 ∷ 0 ∷ [])
     -- and at the stop: 2, 0, 41, 43, 43, 5, 0
     ∷ tells five (3 ∷ 0 ∷ 0 ∷ 0 ∷ 7 ∷ []) (3 ∷ 14 ∷ 0 ∷ 2 ∷ 0 ∷ 0 ∷ 0 ∷ 41 ∷ 0 ∷ 43 ∷ 0 ∷ 43 ∷ 0 ∷ 5 ∷ 0 ∷ 0 ∷ [])
-    -- of lower and upper
+    -- of lower, upper and better; of lower and upper
+    ∷ tells short (3 ∷ 0 ∷ 2 ∷ 0 ∷ 3 ∷ []) (3 ∷ 6 ∷ 0 ∷ 10 ∷ 0 ∷ 12 ∷ 0 ∷ 10 ∷ [])
     ∷ tells five (3 ∷ 0 ∷ 2 ∷ 0 ∷ 2 ∷ []) (3 ∷ 4 ∷ 0 ∷ 41 ∷ 0 ∷ 43 ∷ [])
     -- of register 1, the high byte first: 60,000 is 234 × 256 + 96
     ∷ tells high (3 ∷ 0 ∷ 1 ∷ 0 ∷ 1 ∷ []) (3 ∷ 2 ∷ 234 ∷ 96 ∷ [])
@@ -111,7 +117,7 @@ unfolding methodOf toleranceAt startOf stoppedOf forwardOf displacementOf linear
     renewedOf advanceOf stepOf reachOf offsetOf nextOf openingRefusal answerRefusal sameSide beginOf offerOf takeOf progressOf bracketReport reportAt
     standingOf heldReport enterOf registersOf signedOf entryOf readFault writeFault faultOf topBitSet wordBytes exchangeOf
 exchanges-hold =
-    (refl, (refl, (refl, (refl, (refl, (refl, (refl, (refl, (refl, (refl, (refl, (refl, (refl, (refl, (refl, (refl, (refl, (refl, tt))))))))))))))))))
+    (refl, (refl, (refl, (refl, (refl, (refl, (refl, (refl, (refl, (refl, (refl, (refl, (refl, (refl, (refl, (refl, (refl, (refl, (refl, tt)))))))))))))))))))
 
 -- requests of the two functions that get exception 03 or 02
 abbrev misfits : List Worked
@@ -211,13 +217,20 @@ unfolding methodOf toleranceAt startOf stoppedOf forwardOf displacementOf linear
     standingOf heldReport enterOf registersOf signedOf entryOf readFault writeFault faultOf topBitSet wordBytes exchangeOf exchangedOf replyBuffer
 calls-hold = (refl, refl, (refl, refl, (refl, refl, (refl, refl, (refl, refl, tt)))))
 
--- ---- a run: an entry, a read, a refused value, an entry
+-- ---- a run: an entry, a read, a refused value, an entry; what it leaves, the values accepted, and those offered
 
 abbrev requests : List (List ℕ)
 requests = entryRequest (minus 10) ∷ (3 ∷ 0 ∷ 0 ∷ 0 ∷ 7 ∷ []) ∷ entryRequest (pos 10001) ∷ entryRequest (minus 2) ∷ []
 
-run-holds : (searchThen two requests ≡ four) × (acceptedIn two requests ≡ minus 10 ∷ minus 2 ∷ [])
+record Runs : Type 0 where
+  ends : searchThen two requests ≡ four
+  accepted : acceptedIn two requests ≡ minus 10 ∷ minus 2 ∷ []
+  tried : map offered (offersIn two requests)
+      ≡ record { point = pos 33; value = minus 10 } ∷ record { point = pos 41; value = pos 10001 } ∷ record { point = pos 41; value = minus 2 } ∷ []
+
+run-holds : Runs
 unfolding methodOf toleranceAt startOf stoppedOf forwardOf displacementOf linearOf crossOf rationalOf doubledOf opposed partnerOf streakOf
     renewedOf advanceOf stepOf reachOf offsetOf nextOf openingRefusal answerRefusal sameSide beginOf offerOf takeOf progressOf bracketReport reportAt
     standingOf heldReport enterOf registersOf signedOf entryOf readFault writeFault faultOf topBitSet wordBytes exchangeOf searchThen acceptedIn
-run-holds = (refl, refl)
+    offersIn
+run-holds = record { ends = refl; accepted = refl; tried = refl }

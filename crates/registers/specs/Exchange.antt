@@ -14,7 +14,7 @@ use Rattle.held.specs.declared.Entered.{Entered}
 use Rattle.held.specs.Held.{heldReport, enterOf}
 use Rattle.registers.specs.declared.Replied.{Replied}
 use Rattle.registers.specs.declared.Exchanged.{Exchanged}
-use Rattle.registers.specs.Registers.{registersOf, registers, entryRegister, calledFor}
+use Rattle.registers.specs.Registers.{registersOf, registerCount, entryRegister, calledFor}
 
 -- ---- a request: the function, then two words: the address, and the quantity or the value
 
@@ -55,7 +55,7 @@ valueOf request = signedOf (wordAt request 3)
 unfoldable pub entryOf : Search → List ℕ → Entered
 entryOf s request = enterOf s (pos (calledFor s)) (valueOf request)
 
--- ---- exceptions, in the order of the checks: the first that applies, 0 where none does
+-- ---- exceptions, by their Modbus numbers
 
 abbrev pub illegalFunction : ℕ
 illegalFunction = 1
@@ -69,6 +69,8 @@ illegalValue = 3
 abbrev pub deviceFailure : ℕ
 deviceFailure = 4
 
+-- ---- the checks in their order: the first exception that applies, 0 where none does
+
 abbrev pub wrongLength : List ℕ → Bool
 wrongLength request = not (eqb (length request) requestLength)
 
@@ -77,7 +79,7 @@ unfoldable pub readFault : List ℕ → ℕ
 readFault request =
     cond (wrongLength request) illegalValue
     (cond (not (leb 1 (quantityOf request) && leb (quantityOf request) mostAsked)) illegalValue
-    (cond (ltb registers (addressOf request + quantityOf request)) illegalAddress 0))
+    (cond (ltb registerCount (addressOf request + quantityOf request)) illegalAddress 0))
 
 -- a wrong length; then a write elsewhere than to register 6; then a value that the search refuses
 unfoldable pub writeFault : Search → List ℕ → ℕ
@@ -129,6 +131,7 @@ pub record Exchange : Type 0 where
 abbrev pub excepted : Search → List ℕ → ℕ → Exchange
 excepted s request fault = record { reply = exceptionReply (functionOf request) fault; search = s }
 
+-- without an exception the function is one of the two: a read, or a write
 abbrev pub served : Search → List ℕ → Exchange
 served s request =
     cond (eqb (functionOf request) readHolding)

@@ -11,23 +11,11 @@ use lib.ListN.{length, getD, length-take, length-drop}
 use Rattle.rules.specs.Search.{isRefusal}
 use Rattle.held.specs.declared.Search.{Search}
 use Rattle.held.specs.Held.{heldReport}
-use Rattle.registers.specs.Registers.{registersOf, registers, entryRegister}
+use Rattle.registers.specs.Registers.{registersOf, registerCount, entryRegister}
 use Rattle.registers.specs.Exchange.{readHolding, writeSingle, requestLength, mostAsked, functionOf, addressOf, quantityOf, entryOf}
 use Rattle.registers.specs.Exchange.{illegalFunction, illegalAddress, illegalValue, deviceFailure, wrongLength, readFault, writeFault, faultOf}
-use Rattle.registers.specs.Exchange.{exceptionReply, wordBytes, partOf, readReply, echoReply, Exchange, excepted, exchangeOf, longestReply}
-
--- ---- what a read and a write come to, once the search and the function are known
-
-abbrev pub readTold : List ℕ → List ℕ → List ℕ
-readTold words request = cond (eqb (readFault request) 0) (readReply words request) (exceptionReply readHolding (readFault request))
-
--- a write without a fault
-abbrev pub echoed : Search → List ℕ → Exchange
-echoed s request = record { reply = echoReply request; search = entryOf s request .search }
-
-abbrev pub writeTold : Search → List ℕ → Exchange
-writeTold s request =
-    cond (eqb (writeFault s request) 0) (echoed s request) (record { reply = exceptionReply writeSingle (writeFault s request); search = s })
+use Rattle.registers.specs.Exchange.{exceptionReply, wordBytes, partOf, readReply, Exchange, excepted, exchangeOf, longestReply}
+use Rattle.registers.specs.Inner.{readTold, echoed, writeTold, formFault, Readable, Writable}
 
 -- ---- the cases
 
@@ -71,13 +59,9 @@ module _ (s : Search) (request : List ℕ) where
 
 -- ---- a write's cases
 
--- the checks of a write that its search has no part in
-unfoldable pub placeFault : List ℕ → ℕ
-placeFault request = cond (wrongLength request) illegalValue (cond (not (eqb (addressOf request) entryRegister)) illegalAddress 0)
-
 pub write-fault-is : (s : Search) (request : List ℕ)
-    → writeFault s request ≡ cond (eqb (placeFault request) 0) (cond (isRefusal (entryOf s request .report)) illegalValue 0) (placeFault request)
-unfolding writeFault placeFault
+    → writeFault s request ≡ cond (eqb (formFault request) 0) (cond (isRefusal (entryOf s request .report)) illegalValue 0) (formFault request)
+unfolding writeFault formFault
 write-fault-is s request =
     go (wrongLength request) (not (eqb (addressOf request) entryRegister)) (cond (isRefusal (entryOf s request .report)) illegalValue 0)
   where
@@ -88,11 +72,11 @@ write-fault-is s request =
     go false false last = refl
 
 module _ (s : Search) (request : List ℕ) where
-  pub write-misplaced : (n : ℕ) → n ≡ placeFault request → eqb n 0 ≡ false
+  pub write-misplaced : (n : ℕ) → n ≡ formFault request → eqb n 0 ≡ false
       → record { reply = exceptionReply writeSingle n; search = s } ≡ writeTold s request
-  write-misplaced n e f = let g : eqb (placeFault request) 0 ≡ false = rw e at f in rw (write-fault-is s request) (simp (g, e))
+  write-misplaced n e f = let g : eqb (formFault request) 0 ≡ false = rw e at f in rw (write-fault-is s request) (simp (g, e))
 
-  module _ (placed : eqb (placeFault request) 0 ≡ true) where
+  module _ (placed : eqb (formFault request) 0 ≡ true) where
     pub write-refused : isRefusal (entryOf s request .report) ≡ true
         → record { reply = exceptionReply writeSingle illegalValue; search = s } ≡ writeTold s request
     write-refused e = rw (write-fault-is s request) (simp (placed, e))
@@ -102,19 +86,14 @@ module _ (s : Search) (request : List ℕ) where
 
 -- ---- what a request without a fault is
 
-pub record Readable (request : List ℕ) : Type 0 where
-  pub long : length request ≡ requestLength
-  pub least : 1 ≤ quantityOf request
-  pub inside : addressOf request + quantityOf request ≤ registers
-
 pub readable : (request : List ℕ) → readFault request ≡ 0 → Readable request
 unfolding readFault
 readable request h =
     go (eqb (length request) requestLength) refl (leb 1 (quantityOf request)) refl (leb (quantityOf request) mostAsked)
-    (ltb registers (addressOf request + quantityOf request)) refl h
+    (ltb registerCount (addressOf request + quantityOf request)) refl h
   where
     go : (a : Bool) → eqb (length request) requestLength ≡ a → (b : Bool) → leb 1 (quantityOf request) ≡ b → (c : Bool)
-        → (d : Bool) → ltb registers (addressOf request + quantityOf request) ≡ d
+        → (d : Bool) → ltb registerCount (addressOf request + quantityOf request) ≡ d
         → cond (not a) illegalValue (cond (not (b && c)) illegalValue (cond d illegalAddress 0)) ≡ 0 → Readable request
     go false e b f c d g h = absurd (omega arith)
     go true e false f c d g h = absurd (omega arith)
@@ -122,12 +101,8 @@ readable request h =
     go true e true f true true g h = absurd (omega arith)
     go true e true f true false g h = record { long = eqb-true _ _ e; least = leb-true _ _ f; inside = ltb-false _ _ g }
 
-pub record Writable (request : List ℕ) : Type 0 where
-  pub long : length request ≡ requestLength
-  pub here : addressOf request ≡ entryRegister
-
-pub writable : (request : List ℕ) → placeFault request ≡ 0 → Writable request
-unfolding placeFault
+pub writable : (request : List ℕ) → formFault request ≡ 0 → Writable request
+unfolding formFault
 writable request h = go (eqb (length request) requestLength) refl (eqb (addressOf request) entryRegister) refl h
   where
     go : (a : Bool) → eqb (length request) requestLength ≡ a → (b : Bool) → eqb (addressOf request) entryRegister ≡ b
@@ -154,7 +129,7 @@ unfolding wordBytes
 word-bytes-length [] = refl
 word-bytes-length (w ∷ ws) = omega (arith, word-bytes-length ws)
 
-module _ (words request : List ℕ) (long : length words ≡ registers) (ok : Readable request) where
+module _ (words request : List ℕ) (long : length words ≡ registerCount) (ok : Readable request) where
   pub part-length : length (partOf words (addressOf request) (quantityOf request)) ≡ quantityOf request
   part-length = rw (length-take, length-drop) (omega (arith, ok .inside))
 

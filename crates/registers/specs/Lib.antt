@@ -5,6 +5,7 @@ pub mod Exchange
 pub mod Requests
 pub mod Claims
 mod Examples
+pub mod Inner
 pub mod RegistersLaws
 pub mod ExchangeLaws
 pub mod PanelLaws

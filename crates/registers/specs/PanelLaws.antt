@@ -9,23 +9,26 @@ use native.Mathlib.Omega.{arith}
 use borrow.Author.Tests.{eqb-true, eqb-false, eq-eqb, ne-eqb, ltb-false, lt-ltb, le-ltb}
 use lib.Dec.{eqb, leb, ltb}
 use lib.IntN.{ℤ, pos, negsuc, natAbs}
-use lib.ListN.{length, drop, getD}
+use lib.ListN.{length, drop, getD, length-set}
 use lib.Seq.{getD-take, getD-drop}
 use Rattle.integers.specs.SignsLaws.{never}
-use Rattle.rules.specs.Rules.{largestValue}
-use Rattle.rules.specs.Search.{isRefused, otherAt, isRefusal}
+use Rattle.rules.specs.Rules.{slots, largestValue}
+use Rattle.rules.specs.Search.{isRefused, otherAt, isRefusal, reportAt}
 use Rattle.rules.specs.SearchLaws.{Taken, taken-is, refusal-is}
 use Rattle.held.specs.declared.Search.{Search}
-use Rattle.held.specs.Held.{standingOf, heldReport, triedOf, enterOf}
-use Rattle.registers.specs.Registers.{registersOf, registers, entryRegister, calledFor}
-use Rattle.registers.specs.Exchange.{readHolding, writeSingle, mostAsked, functionOf, wordAt, addressOf, quantityOf, signedOf, valueOf, entryOf}
-use Rattle.registers.specs.Exchange.{illegalFunction, illegalAddress, illegalValue, deviceFailure, wrongLength, readFault, writeFault, faultOf}
-use Rattle.registers.specs.Exchange.{topBitSet, wordBytes, partOf, readReply, Exchange, excepted, served, exchangeOf, longestReply}
-use Rattle.registers.specs.Requests.{wordOf, entryRequest, enters}
+use Rattle.held.specs.declared.Entered.{Entered}
+use Rattle.held.specs.Held.{standingOf, heldReport, withValue, triedOf, enterOf}
+use Rattle.held.specs.HeldLaws.{enter-report}
+use Rattle.registers.specs.Registers.{registersOf, registerCount, entryRegister, calledFor}
+use Rattle.registers.specs.Exchange.{readHolding, writeSingle, requestLength, mostAsked, functionOf, wordAt, addressOf, quantityOf, signedOf}
+use Rattle.registers.specs.Exchange.{valueOf, entryOf, illegalFunction, illegalAddress, illegalValue, deviceFailure, wrongLength, readFault}
+use Rattle.registers.specs.Exchange.{writeFault, faultOf, topBitSet, exceptionReply, wordBytes, partOf, readReply, Exchange, excepted, served}
+use Rattle.registers.specs.Exchange.{exchangeOf, longestReply}
+use Rattle.registers.specs.Requests.{wordOf, entryRequest, enters, offers}
 use Rattle.registers.specs.Claims.{Excepted, EveryValue}
 use Rattle.registers.specs.RegistersLaws.{seven}
-use Rattle.registers.specs.ExchangeLaws.{echoed, placeFault, write-fault-is, Readable, readable, writable, word-bytes-length, part-length}
-use Rattle.registers.specs.ExchangeLaws.{read-length}
+use Rattle.registers.specs.Inner.{echoed, formFault, Readable}
+use Rattle.registers.specs.ExchangeLaws.{write-fault-is, readable, writable, word-bytes-length, part-length, read-length}
 
 -- ---- words and bytes
 
@@ -59,7 +62,7 @@ module _ (s : Search) (request : List ℕ) where
   unfolding readFault
   read-fault-small =
       go (wrongLength request) (not (leb 1 (quantityOf request) && leb (quantityOf request) mostAsked))
-      (ltb registers (addressOf request + quantityOf request))
+      (ltb registerCount (addressOf request + quantityOf request))
     where
       go : (a b c : Bool) → cond a illegalValue (cond b illegalValue (cond c illegalAddress 0)) ≤ 4
       go true b c = omega arith
@@ -112,11 +115,11 @@ module _ (s : Search) (request : List ℕ) where
       go false true f h = (f, h)
       go false false f h = absurd (omega arith)
 
-  write-parts : writeFault s request ≡ 0 → (placeFault request ≡ 0) × (isRefusal (entryOf s request .report) ≡ false)
-  write-parts h = go (eqb (placeFault request) 0) refl (isRefusal (entryOf s request .report)) (sym (write-fault-is s request) ∙ h)
+  write-parts : writeFault s request ≡ 0 → (formFault request ≡ 0) × (isRefusal (entryOf s request .report) ≡ false)
+  write-parts h = go (eqb (formFault request) 0) refl (isRefusal (entryOf s request .report)) (sym (write-fault-is s request) ∙ h)
     where
-      go : (b : Bool) → eqb (placeFault request) 0 ≡ b → (c : Bool) → cond b (cond c illegalValue 0) (placeFault request) ≡ 0
-          → (placeFault request ≡ 0) × (c ≡ false)
+      go : (b : Bool) → eqb (formFault request) 0 ≡ b → (c : Bool) → cond b (cond c illegalValue 0) (formFault request) ≡ 0
+          → (formFault request ≡ 0) × (c ≡ false)
       go true e true h = absurd (omega arith)
       go true e false h = (eqb-true _ _ e, refl)
       go false e c h = absurd (eqb-false _ _ e h)
@@ -188,6 +191,58 @@ module _ (s : Search) (request : List ℕ) where
     unfolding entryOf
     entry-taken = write-parts fine .1
 
+    pub entry-offered : offers s request ≡ true
+    unfolding faultOf
+    entry-offered =
+        let w = writable request (write-parts fine .0) in
+        simp (standing (isRefusal (heldReport s)) _ (eqb-true _ _ (parts .1)), parts .0, eq-eqb _ _ (w .long), eq-eqb _ _ (w .here))
+      where
+        standing : (b : Bool) (n : ℕ) → cond b deviceFailure n ≡ 0 → b ≡ false
+        standing true n h = absurd (omega arith)
+        standing false n h = refl
+
+  -- a value that is offered
+  module _ (n : offers s request ≡ true) where
+    abbrev entry : Entered
+    entry = enterOf s (pos (calledFor s)) (valueOf request)
+
+    -- its four conditions
+    record Offer : Type 0 where
+      pub fine-search : isRefusal (heldReport s) ≡ false
+      pub writes : eqb (functionOf request) writeSingle ≡ true
+      pub long-enough : eqb (length request) requestLength ≡ true
+      pub here : eqb (addressOf request) entryRegister ≡ true
+
+    offer : Offer
+    offer = go (isRefusal (heldReport s)) refl (eqb (functionOf request) writeSingle) refl (eqb (length request) requestLength) refl
+        (eqb (addressOf request) entryRegister) refl n
+      where
+        go : (a : Bool) → isRefusal (heldReport s) ≡ a → (b : Bool) → eqb (functionOf request) writeSingle ≡ b
+            → (c : Bool) → eqb (length request) requestLength ≡ c → (d : Bool) → eqb (addressOf request) entryRegister ≡ d
+            → (not a && (b && (not (not c) && d))) ≡ true → Offer
+        go true e b f c g d h i = never (sym i)
+        go false e false f c g d h i = never (sym i)
+        go false e true f false g d h i = never (sym i)
+        go false e true f true g false h i = never (sym i)
+        go false e true f true g true h i = record { fine-search = e; writes = f; long-enough = g; here = h }
+
+    pub offer-made : exchangeOf s request
+        ≡ cond (isRefusal (entry .report)) (record { reply = exceptionReply writeSingle illegalValue; search = s })
+        (record { reply = request; search = entry .search })
+    unfolding exchangeOf faultOf writeFault entryOf
+    offer-made =
+        let is-six : functionOf request ≡ writeSingle = eqb-true _ _ (offer .writes) in
+        let long : length request ≡ requestLength = eqb-true _ _ (offer .long-enough) in
+        let some : eqb (length request) 0 ≡ false = ne-eqb (length request) 0 (λ e. omega (arith, long)) in
+        let other : eqb (functionOf request) readHolding ≡ false = rw is-six in
+        simp (some, offer .fine-search, other, offer .writes, offer .long-enough, offer .here) (go (isRefusal (entry .report)))
+      where
+        go : (b : Bool)
+            → cond (eqb (cond b illegalValue 0) 0) (record { reply = request; search = entry .search }) (excepted s request (cond b illegalValue 0))
+            ≡ cond b (record { reply = exceptionReply writeSingle illegalValue; search = s }) (record { reply = request; search = entry .search })
+        go true = ap (λ (f : ℕ). record { reply = exceptionReply f illegalValue; search = s }) (eqb-true _ _ (offer .writes))
+        go false = refl
+
   -- a read
   module _ (e : functionOf request ≡ readHolding) (z : eqb (faultOf s request) 0 ≡ true) where
     is-read : eqb (functionOf request) readHolding ≡ true
@@ -216,6 +271,26 @@ module _ (s : Search) (request : List ℕ) where
         ∙ bytes-word part i (omega (arith, long))
         ∙ getD-take (quantityOf request) (drop (addressOf request) (registersOf s)) i 0 h
         ∙ getD-drop (addressOf request) (registersOf s) i 0)
+
+-- ---- what `enter` leaves, of a search with its 77 slots
+
+module _ (s : Search) (x v : ℤ) (long : length (s .slots) ≡ slots) where
+  -- a refused value leaves the search
+  pub refused-leaves : isRefusal (enterOf s x v .report) ≡ true → enterOf s x v .search ≡ s
+  unfolding enterOf
+  refused-leaves h =
+      let e : isRefused (triedOf s x v) ≡ true = sym (refusal-is (s .opening) (triedOf s x v)) ∙ ap isRefusal (sym (enter-report s x v long)) ∙ h in
+      simp e
+
+  pub entered-long : length (enterOf s x v .search .slots) ≡ slots
+  unfolding enterOf
+  entered-long = go (isRefused (triedOf s x v))
+    where
+      go : (b : Bool)
+          → length (cond {A = Entered} b (record { report = reportAt (s .opening) (triedOf s x v); search = s })
+          (record { report = heldReport (withValue s v); search = withValue s v }) .search .slots) ≡ slots
+      go true = long
+      go false = length-set (s .slots) (s .count) v ∙ long
 
 -- ---- every value that the search accepts has a request
 

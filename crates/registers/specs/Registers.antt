@@ -24,8 +24,8 @@ unfoldable pub registersOf : Search → List ℕ
 registersOf s = registersAt (heldReport s)
 
 -- how many they are
-abbrev pub registers : ℕ
-registers = 7
+abbrev pub registerCount : ℕ
+registerCount = 7
 
 -- where the point called for is read, and where a value is entered
 abbrev pub pointRegister : ℕ

@@ -12,21 +12,17 @@ use Rattle.rules.specs.declared.Opening.{Opening}
 use Rattle.rules.specs.declared.Bracket.{Bracket}
 use Rattle.rules.specs.declared.Progress.{Progress}
 use Rattle.rules.specs.declared.Report.{Report}
-use Rattle.rules.specs.Rules.{highest, slots, lowerOf, upperOf, stoppedOf, nextOf}
+use Rattle.rules.specs.Rules.{slots, lowerOf, upperOf, stoppedOf, nextOf}
 use Rattle.rules.specs.Refusals.{countAbove}
 use Rattle.rules.specs.RefusalsLaws.{Opened}
 use Rattle.rules.specs.Search.{progressOf, bracketReport, reportAt}
 use Rattle.rules.specs.SearchLaws.{Sound, SoundAt, ahead, most-slots, sound}
 use Rattle.held.specs.declared.Search.{Search}
 use Rattle.held.specs.Held.{valuesOf, standingOf, heldReport}
-use Rattle.registers.specs.Registers.{registersAt, registersOf, registers}
+use Rattle.registers.specs.Registers.{registersAt, registersOf, registerCount}
+use Rattle.registers.specs.Inner.{Limited}
 
--- ---- the points of a report lie within limits, and its answers are no more than the slots
-
-abbrev pub Limited : Report → Type 0
-Limited (Report.Next point taken) = (point ≤ highest) × (taken ≤ slots)
-Limited (Report.Stop lower upper better taken) = (lower ≤ highest) × (upper ≤ highest) × (better ≤ highest) × (taken ≤ slots)
-Limited (Report.Refused number place) = Unit {0}
+-- ---- the points of every report lie within limits
 
 module _ (o : Opening) where
   bracket-limited : (k : Bracket) → Opened o → Sound o k → Limited (bracketReport o k)
@@ -65,11 +61,11 @@ held-limited s = report-limited (s .opening) (standingOf s) (standing-sound s)
 
 -- ---- there are seven
 
-seven-at : (r : Report) → length (registersAt r) ≡ registers
+seven-at : (r : Report) → length (registersAt r) ≡ registerCount
 seven-at (Report.Next p n) = refl
 seven-at (Report.Stop a b c n) = refl
 seven-at (Report.Refused n i) = refl
 
-pub seven : (s : Search) → length (registersOf s) ≡ registers
+pub seven : (s : Search) → length (registersOf s) ≡ registerCount
 unfolding registersOf
 seven s = seven-at (heldReport s)

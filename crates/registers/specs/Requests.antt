@@ -1,18 +1,20 @@
--- Runs of requests, each to the search that the one before left, and the values that enter it on the way.
+-- Runs of requests, each to the search that the one before left, and the values that are offered and enter it on the way. A call whose buffer
+-- is too short leaves the search as it was, and is no request of a run.
 -- Assumes nothing.
 use Prim.Native.Nat.{ℕ, _-_}
-use mathlib.Core.Bool.{Bool, cond, _&&_}
+use mathlib.Core.Bool.{Bool, cond, not, _&&_}
 use mathlib.Core.List.{List, [], _∷_}
 use lib.Dec.{eqb}
 use lib.IntN.{ℤ, pos, negsuc}
 use Rattle.rules.specs.declared.Answer.{Answer}
+use Rattle.rules.specs.Search.{isRefusal}
 use Rattle.held.specs.declared.Search.{Search}
-use Rattle.held.specs.Held.{enterOf}
+use Rattle.held.specs.Held.{heldReport, enterOf}
 use Rattle.journal.specs.Run.{Call, byValue}
 use Rattle.registers.specs.Registers.{entryRegister, calledFor}
-use Rattle.registers.specs.Exchange.{writeSingle, functionOf, valueOf, faultOf, wordBytes, exchangeOf}
+use Rattle.registers.specs.Exchange.{writeSingle, functionOf, addressOf, valueOf, wrongLength, faultOf, wordBytes, exchangeOf}
 
--- what a panel sends to enter a value: function 06, register 6, and the value as a two's complement word
+-- what a panel sends to enter a value: function 06, register 6, and the value as a two's complement word, from −32,768 to 32,767
 abbrev pub wordOf : ℤ → ℕ
 wordOf (pos n) = n
 wordOf (negsuc n) = 65535 - n
@@ -40,6 +42,17 @@ acceptedIn s (request ∷ requests) =
 -- a value with the point called for
 abbrev pub answerFor : Search → ℤ → Answer
 answerFor s v = record { point = pos (calledFor s); value = v }
+
+-- a request offers its value to the search: a write to register 6, of the right length, to a search that is not itself refused
+abbrev pub offers : Search → List ℕ → Bool
+offers s request =
+    not (isRefusal (heldReport s)) && (eqb (functionOf request) writeSingle && (not (wrongLength request) && eqb (addressOf request) entryRegister))
+
+-- the calls that offer these values, refused ones included, each with the point then called for
+unfoldable pub offersIn : Search → List (List ℕ) → List Call
+offersIn s [] = []
+offersIn s (request ∷ requests) =
+    let rest = offersIn (exchangeOf s request .search) requests in cond (offers s request) (byValue (answerFor s (valueOf request)) ∷ rest) rest
 
 -- the calls that enter values in turn, each with the point then called for
 unfoldable pub callsFor : Search → List ℤ → List Call

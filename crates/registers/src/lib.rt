@@ -1,8 +1,10 @@
 // The dryer panel: its registers, and what is told of a reply. There is no function here: see specs/.
 use held::Search;
 
-// How many registers there are, and the one that takes a value.
-pub const REGISTERS: u32 = 7;
+// How many registers there are, the one that shows the point called for, and the one that takes a value.
+pub const REGISTERS: usize = 7;
+
+pub const POINT_REGISTER: usize = 1;
 
 pub const ENTRY_REGISTER: u32 = 6;
 

@@ -28,8 +28,11 @@ returns-3 c =
 word-at-requires-2 : tie.Need-word-at-requires-2
 word-at-requires-2 c κs = search needs
 
-add-if4 : tie.Need-add-if4
-add-if4 c = search needs
+add-end : tie.Need-add-end
+add-end c = search needs
+
+cast-end : tie.Need-cast-end
+cast-end c = search needs
 
 returns-4 : tie.Need-returns-4
 unfolding readFault
@@ -60,6 +63,7 @@ read-fault-spec =
     returns-2
     returns-3
     word-at-requires-2
-    add-if4
+    add-end
+    cast-end
     returns-4
     returns-5)

@@ -13,8 +13,9 @@ use Rattle.rules.specs.Search.{isRefusal}
 use Rattle.held.specs.declared.Search.{Search}
 use Rattle.held.specs.Held.{heldReport}
 use Rattle.registers.specs.Registers.{registersAt, registersOf}
-use Rattle.registers.specs.RegistersLaws.{Limited, held-limited}
-use Rattle.registers.specs.ExchangeLaws.{readTold, empty-exchange, refused-exchange, other-exchange, read-exchange, write-exchange}
+use Rattle.registers.specs.Inner.{Limited, readTold}
+use Rattle.registers.specs.RegistersLaws.{held-limited}
+use Rattle.registers.specs.ExchangeLaws.{empty-exchange, refused-exchange, other-exchange, read-exchange, write-exchange}
 use Rattle.modbus.specs.Reply.{Holds}
 use Rattle.panel.proofs.respond.Statement.{statement}
 use Rattle.panel.proofs.respond.Tie as tie

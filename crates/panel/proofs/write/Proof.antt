@@ -15,13 +15,14 @@ use Rattle.rules.specs.Search.{isRefusal}
 use Rattle.held.specs.declared.Search.{Search}
 use Rattle.held.specs.declared.Entered.{Entered}
 use Rattle.registers.specs.Exchange.{entryOf}
-use Rattle.registers.specs.ExchangeLaws.{placeFault, Writable, writable, write-misplaced, write-refused, write-accepted}
+use Rattle.registers.specs.Inner.{formFault, Writable}
+use Rattle.registers.specs.ExchangeLaws.{writable, write-misplaced, write-refused, write-accepted}
 use Rattle.panel.specs.Told.{Tells}
 use Rattle.panel.proofs.write.Statement.{statement}
 use Rattle.panel.proofs.write.Tie as tie
 
-place-fault-requires : tie.Need-place-fault-requires
-place-fault-requires c κs = search needs
+form-fault-requires : tie.Need-form-fault-requires
+form-fault-requires c κs = search needs
 
 exception-requires : tie.Need-exception-requires
 exception-requires c κs = search needs
@@ -29,13 +30,13 @@ exception-requires c κs = search needs
 returns : tie.Need-returns
 returns c =
     let s = c .before .before .before .before .args in
-    let f = c .before .before .place-fault in
+    let f = c .before .before .form-fault in
     subst (Tells (record { reply = c .exception .result; search = s .search }))
     (write-misplaced (s .search) (s .request .now) (f .result) (f .ensures) (ne-eqb _ _ (c .before .if1 .taken)))
     (record { reply = c .exception .ensures; search = refl })
 
 writable-at : (c : tie.Else1) → Writable (c .before .before .before .args .request .now)
-writable-at c = writable _ (sym (c .before .place-fault .ensures) ∙ c .if1 .left)
+writable-at c = writable _ (sym (c .before .form-fault .ensures) ∙ c .if1 .left)
 
 word-at-requires : tie.Need-word-at-requires
 word-at-requires c κs = omega (arith, writable-at c .long)
@@ -68,8 +69,8 @@ entered c =
     ∙ rw (s .pre, v .ensures, c .before .before .word-at .ensures .0)
 
 -- the request was neither too long, too short nor misplaced
-well-placed : (c : tie.After-enter) → eqb (placeFault (request-at c)) 0 ≡ true
-well-placed c = eq-eqb _ _ (sym (c .before .before .before .before .place-fault .ensures) ∙ c .before .before .before .if1 .left)
+well-placed : (c : tie.After-enter) → eqb (formFault (request-at c)) 0 ≡ true
+well-placed c = eq-eqb _ _ (sym (c .before .before .before .before .form-fault .ensures) ∙ c .before .before .before .if1 .left)
 
 is-refusal-requires : tie.Need-is-refusal-requires
 is-refusal-requires c κs = search needs
@@ -102,7 +103,7 @@ pub write-spec : {M : Type 1} → statement M
 write-spec =
     tie.close
     (tie.spec
-    place-fault-requires
+    form-fault-requires
     exception-requires
     returns
     word-at-requires

@@ -2,7 +2,7 @@
 -- Assumes nothing.
 use mathlib.Core.Path.{_≡_}
 use lib.ListN.{length}
-use Rattle.registers.specs.Registers.{registers}
+use Rattle.registers.specs.Registers.{registerCount}
 use Rattle.readout.specs.Words.{read-holds}
 use borrow.Author.Needs.{needs}
 use Rattle.readout.proofs.read_words.Statement.{statement}
@@ -49,7 +49,7 @@ returns c =
     let s = c .before .before .before .before .before .before in
     let q = c .before .before .before .word-at2 .ensures .0 in
     let a = c .before .before .before .before .word-at .ensures .0 in
-    let long : length (s .args .t1) ≡ registers = search needs in
+    let long : length (s .args .t1) ≡ registerCount = search needs in
     rw (c .put-words .ensures) (read-holds (s .args .t1) (s .args .request .now) _ _ long (s .pre) a q)
 
 pub read-words-spec : {M : Type 1} → statement M

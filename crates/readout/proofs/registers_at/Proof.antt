@@ -2,7 +2,7 @@
 -- Assumes nothing.
 use mathlib.Core.Path.{subst}
 use native.Mathlib.Omega.{arith}
-use Rattle.registers.specs.RegistersLaws.{Limited}
+use Rattle.registers.specs.Inner.{Limited}
 use borrow.Author.Needs.{needs}
 use Rattle.readout.proofs.registers_at.Statement.{statement}
 use Rattle.readout.proofs.registers_at.Tie as tie

@@ -1,29 +1,29 @@
--- `modbus::place_fault` meets its contract: one return for each check.
+-- `modbus::form_fault` meets its contract: one return for each check.
 -- Assumes nothing.
 use borrow.Author.Tests.{ne-eqb}
-use Rattle.registers.specs.ExchangeLaws.{placeFault}
+use Rattle.registers.specs.Inner.{formFault}
 use borrow.Author.Needs.{needs}
-use Rattle.modbus.proofs.place_fault.Statement.{statement}
-use Rattle.modbus.proofs.place_fault.Tie as tie
+use Rattle.modbus.proofs.form_fault.Statement.{statement}
+use Rattle.modbus.proofs.form_fault.Tie as tie
 
 returns : tie.Need-returns
-unfolding placeFault
+unfolding formFault
 returns c = simp (ne-eqb _ _ (c .if1 .taken))
 
 word-at-requires : tie.Need-word-at-requires
 word-at-requires c κs = search needs
 
 returns-2 : tie.Need-returns-2
-unfolding placeFault
+unfolding formFault
 returns-2 c =
     let a = c .before .word-at .ensures in
     simp (c .before .before .if1 .left, ne-eqb _ _ (rw (a .0) at (c .if2 .taken)))
 
 returns-3 : tie.Need-returns-3
-unfolding placeFault
+unfolding formFault
 returns-3 c =
     let a = c .before .word-at .ensures in
     simp (c .before .before .if1 .left, rw (a .0) at (c .if2 .left))
 
-pub place-fault-spec : {M : Type 1} → statement M
-place-fault-spec = tie.close (tie.spec returns word-at-requires returns-2 returns-3)
+pub form-fault-spec : {M : Type 1} → statement M
+form-fault-spec = tie.close (tie.spec returns word-at-requires returns-2 returns-3)
