@@ -324,7 +324,7 @@ struct busdekker_report busdekker_change_over(struct busdekker_search *search);
  * the point called for: *search is then what busdekker_enter leaves. Nothing else alters it, though its numbers may be stored again in every call,
  * and they are the same. The first of these that applies is told:
  *
- *   an empty request gets an empty reply, of length 0
+ *   an empty request gets an empty reply, of length 0: nothing is to be sent
  *   exception 04  busdekker_ask refuses *search
  *   exception 01  the function is another than 03 and 06
  *   exception 03  the length is not 5, or for 03 the quantity is not 1 to 125
@@ -338,6 +338,8 @@ struct busdekker_report busdekker_change_over(struct busdekker_search *search);
  * of bytes is 0. The reply stands at the beginning of the buffer, and bytes past it keep their contents. The request is no part of *search.
  * A refusal (18, place 0) is told before all else where `size` is below BUSDEKKER_LONGEST_REPLY: nothing is written into the buffer, and *search
  * stays as it was.
+ * A write enters its value for whatever point is called for when it comes. A panel that repeats one whose reply was lost would enter the value for
+ * the next point too: it reads register 5 first, and writes again only where that has not grown.
  * While nothing else writes it, a search opened by busdekker_open is at every moment the one of the values that the panel's requests entered. A
  * dispatcher's search is not for a panel: what it enters there would be served to no dryer, out of turn and not counted.
  */
