@@ -400,7 +400,7 @@ BUSDEKKER_ASSERT(offsetof(struct busdekker_quotation, t) == 4, "t stands at 4");
 BUSDEKKER_ASSERT(offsetof(struct busdekker_quotation, most) == 8, "most stands at 8");
 BUSDEKKER_ASSERT(offsetof(struct busdekker_quotation, number) == 12, "number stands at 12");
 BUSDEKKER_ASSERT(offsetof(struct busdekker_quotation, place) == 16, "place stands at 16");
-BUSDEKKER_ASSERT(sizeof(struct busdekker_written) == 16, "what is told of a written sheet has 16 bytes");
+BUSDEKKER_ASSERT(sizeof(struct busdekker_written) == 16, "what is told of a sheet or a reply has 16 bytes");
 BUSDEKKER_ASSERT(offsetof(struct busdekker_written, length) == 4, "length stands at 4");
 BUSDEKKER_ASSERT(offsetof(struct busdekker_written, number) == 8, "number stands at 8");
 BUSDEKKER_ASSERT(offsetof(struct busdekker_written, place) == 12, "place stands at 12");

@@ -9,7 +9,8 @@ pub enum Written {
     Refused { number: u32, place: u32 },
 }
 
-// The same as plain numbers: `kind` says whether it is a sheet or a refusal, and a number that its kind has not is 0.
+// The same as plain numbers, and what is told of a panel's reply: `kind` says whether something was written or it is a refusal, and a number
+// that its kind has not is 0.
 #[repr(C)]
 pub struct WrittenRow {
     pub kind: u32,

@@ -24,7 +24,7 @@ refusedKind = 3
 abbrev pub quotedKind : ℕ
 quotedKind = 4
 
--- of a sheet that was written
+-- of a sheet, or a panel's reply, that was written
 abbrev pub writtenKind : ℕ
 writtenKind = 5
 

@@ -137,7 +137,8 @@ pub enum Report {
     },
 }
 
-// The kinds of reports, quotes and written sheets as plain numbers: a next point, the stop, a refusal, a quote, a sheet.
+// The kinds of reports, quotes, written sheets and panels' replies as plain numbers: a next point, the stop, a refusal, a quote, what was
+// written.
 pub const NEXT_KIND: u32 = 1;
 
 pub const STOP_KIND: u32 = 2;
