@@ -28,6 +28,10 @@ quotedKind = 4
 abbrev pub writtenKind : ℕ
 writtenKind = 5
 
+-- of a season report
+abbrev pub seasonKind : ℕ
+seasonKind = 6
+
 -- ---- the numbers of a report
 
 abbrev pub rowOf : Report → Row

@@ -55,6 +55,9 @@ pub const STILL_SEARCHING: u32 = 16;
 // The buffer that a panel's reply goes into: shorter than 16 bytes.
 pub const REPLY_TOO_SHORT: u32 = 18;
 
+// A run of outcomes that a season report is made of: more than 10,000 of them, or numbers not in whole fours.
+pub const MISSHAPEN_RUN: u32 = 19;
+
 // An opening: the method, the first end x0, the second end x1, the tolerance τ, and the share p of a setting that is added to it, in parts
 // per thousand. A sheet may hold any of them out of range.
 #[repr(C)]
@@ -137,8 +140,8 @@ pub enum Report {
     },
 }
 
-// The kinds of reports, quotes, written sheets and panels' replies as plain numbers: a next point, the stop, a refusal, a quote, what was
-// written.
+// The kinds of reports, quotes, written sheets, panels' replies and season reports as plain numbers: a next point, the stop, a refusal, a
+// quote, what was written, a season.
 pub const NEXT_KIND: u32 = 1;
 
 pub const STOP_KIND: u32 = 2;
@@ -148,6 +151,8 @@ pub const REFUSED_KIND: u32 = 3;
 pub const QUOTED_KIND: u32 = 4;
 
 pub const WRITTEN_KIND: u32 = 5;
+
+pub const SEASON_KIND: u32 = 6;
 
 // A report as plain numbers, where no enum can stand: `kind` says which of the three it is, and a number that its kind has not is 0.
 #[repr(C)]

@@ -1,0 +1,73 @@
+-- The claims on season reports, request 2026-10: on every list of outcomes, and on the outcome of every sheet. Nothing is proved here: ClaimsHold
+-- and SheetsHold have the proofs. The contract of `season::season` cites the first, that of `sheet_outcomes::sheet_outcome` the second.
+-- Assumes nothing.
+use Prim.Native.Nat.{ℕ, _+_, _*_, _/_, _%_, _≤_, max}
+use mathlib.Core.Path.{_≡_}
+use mathlib.Core.Bool.{true, false}
+use mathlib.Core.List.{List, [], _∷_, _++_, map, zipWith}
+use lib.IntN.{pos}
+use lib.ListN.{length, getD, set}
+use Rattle.rules.specs.Rules.{slots}
+use Rattle.rules.specs.Search.{isRefusal}
+use Rattle.outcomes.specs.Sheet.{sheetOf}
+use Rattle.seasons.specs.declared.Outcome.{Outcome}
+use Rattle.seasons.specs.declared.Tally.{Tally}
+use Rattle.seasons.specs.declared.Counted.{Counted}
+use Rattle.seasons.specs.Season.{outcomesOf, wasRefused, bookedAs, sum, talliesOf, mostOutcomes, misshapen, noTally, seasonOf}
+use Rattle.seasons.specs.Sheets.{sheetOutcome}
+
+-- ---- words of the claims
+
+-- the numbers of outcomes, one after the other
+abbrev pub written : List Outcome → List ℕ
+written [] = []
+written (o ∷ os) = o .kind ∷ o .method ∷ o .answers ∷ o .quoted ∷ written os
+
+-- the same in another order: neighbours change places, anywhere and any number of times
+pub data Reordered {A : Type 0} : List A → List A → Type 0 where
+  none : Reordered [] []
+  behind : {a : A} {xs ys : List A} → Reordered xs ys → Reordered (a ∷ xs) (a ∷ ys)
+  swapped : {a b : A} {xs : List A} → Reordered (a ∷ b ∷ xs) (b ∷ a ∷ xs)
+  again : {xs ys zs : List A} → Reordered xs ys → Reordered ys zs → Reordered xs zs
+
+-- two tallies added up; the largest is the larger of the two
+abbrev pub added : Tally → Tally → Tally
+added s t =
+    record {
+      stopped = s .stopped + t .stopped;
+      unfinished = s .unfinished + t .unfinished;
+      refused = s .refused + t .refused;
+      answers = s .answers + t .answers;
+      quoted = s .quoted + t .quoted;
+      largest = max (s .largest) (t .largest);
+    }
+
+-- the same tally but for one more refused
+abbrev pub oneMoreRefused : Tally → Tally
+oneMoreRefused t = added t (record { stopped = 0; unfinished = 0; refused = 1; answers = 0; quoted = 0; largest = 0 })
+
+-- how many outcomes a tally counts
+abbrev pub countedIn : Tally → ℕ
+countedIn t = t .stopped + t .unfinished + t .refused
+
+-- ---- of every season
+
+pub record EverySeason : Type 0 where
+  -- a run in whole fours is the numbers of its outcomes, and every list of outcomes has such a run
+  pub whole : (ns : List ℕ) → length ns % 4 ≡ 0 → written (outcomesOf ns) ≡ ns
+  pub read-again : (os : List Outcome) → outcomesOf (written os) ≡ os
+  -- the order does not matter
+  pub any-order : (os ps : List Outcome) → Reordered os ps → seasonOf (written os) ≡ seasonOf (written ps)
+  -- a refused outcome, wherever it stands, adds to its own count and to nothing else
+  pub refused-only : (os ps : List Outcome) (o : Outcome) → wasRefused o ≡ true
+      → talliesOf (os ++ (o ∷ ps))
+      ≡ set (talliesOf (os ++ ps)) (bookedAs o) (oneMoreRefused (getD (talliesOf (os ++ ps)) (bookedAs o) noTally))
+  -- two runs one after the other add up, within the limit
+  pub adds-up : (ns ms : List ℕ) → misshapen (length ns) ≡ false → misshapen (length ms) ≡ false → length ns + length ms ≤ 4 * mostOutcomes
+      → seasonOf (ns ++ ms)
+      ≡ record {
+        counted = Counted.Outcomes (length ns / 4 + length ms / 4);
+        tallies = zipWith added (seasonOf ns .tallies) (seasonOf ms .tallies);
+      }
+  -- every outcome is booked, and once
+  pub all-booked : (os : List Outcome) → sum (map countedIn (talliesOf os)) ≡ length os
