@@ -53,8 +53,9 @@ extern "C" {
  * by itself or in a dispatcher, copies it, where it is of version 6 or older, as said above, and then changes it over by busdekker_change_over
  * before any other call on it or on its dispatcher. Such a sheet, read as it is, may be refused, or be sent to another point: it goes through the
  * program old_default, which reads it with 0 as M and writes its clean sheet with method 1. Since version 9 there is busdekker_panel; no struct and
- * no other call has changed. */
-#define BUSDEKKER_VERSION 9
+ * no other call has changed. Since version 10 there are busdekker_sheet_outcome and busdekker_season, with their structs; no other struct and no
+ * other call has changed. */
+#define BUSDEKKER_VERSION 10
 
 /* The answers that a search keeps. */
 #define BUSDEKKER_SLOTS 77
@@ -70,6 +71,14 @@ extern "C" {
 
 /* The bytes of the longest reply to a panel, and the least that a buffer for its replies has. */
 #define BUSDEKKER_LONGEST_REPLY 16
+
+/* The most outcomes of a season, and the numbers of each. */
+#define BUSDEKKER_MOST_OUTCOMES 10000
+#define BUSDEKKER_OUTCOME_NUMBERS 4
+
+/* The tallies of a season: one for each of the methods 0, 1 and 2, in this order, and at BUSDEKKER_OTHER one for any other method. */
+#define BUSDEKKER_TALLIES 4
+#define BUSDEKKER_OTHER 3
 
 /* The dryers of a dispatcher, which are 0 to 5. */
 #define BUSDEKKER_DRYERS 6
@@ -93,17 +102,27 @@ enum busdekker_method {
     BUSDEKKER_R = 2
 };
 
-/* The kinds of reports, of quotations and of what is told of a written sheet or a panel's reply. */
+/* The kinds of reports, of quotations, of what is told of a written sheet or a panel's reply, and of season reports. */
 enum busdekker_kind {
     BUSDEKKER_NEXT = 1,    /* a trial is called for */
     BUSDEKKER_STOP = 2,    /* the search has stopped */
     BUSDEKKER_REFUSED = 3, /* something is refused */
     BUSDEKKER_QUOTED = 4,  /* a quotation */
-    BUSDEKKER_WRITTEN = 5  /* a sheet or a reply was written */
+    BUSDEKKER_WRITTEN = 5, /* a sheet or a reply was written */
+    BUSDEKKER_SEASON = 6   /* a season was counted */
+};
+
+/* The kinds of outcomes of sheets. A season takes any number from 2 on for refused. */
+enum busdekker_outcome_kind {
+    BUSDEKKER_SHEET_STOPPED = 0,    /* the sheet's search has stopped */
+    BUSDEKKER_SHEET_UNFINISHED = 1, /* it calls for a trial */
+    BUSDEKKER_SHEET_REFUSED = 2     /* the sheet is refused */
 };
 
 /* The numbers of refusals, in the order in which they are checked. The first that applies is told. */
 enum busdekker_refusal {
+    /* the run of outcomes that a season report is made of, before any of its numbers is read */
+    BUSDEKKER_MISSHAPEN_RUN = 19, /* more than 10,000 outcomes, or numbers not in whole fours */
     /* the buffer that a panel's reply is to be written into, before the request and the search */
     BUSDEKKER_REPLY_TOO_SHORT = 18, /* the buffer is shorter than 16 bytes */
     /* the dryer of a dispatcher, before its search and what is offered to it */
@@ -234,6 +253,48 @@ struct busdekker_written {
     uint32_t place;
 };
 
+/*
+ * The outcome of a sheet in four numbers, as a season report takes them.
+ *
+ *   kind     BUSDEKKER_SHEET_STOPPED, BUSDEKKER_SHEET_UNFINISHED or BUSDEKKER_SHEET_REFUSED
+ *   method   the method as the first record has it: 0 is 0, though R is meant; BUSDEKKER_OTHER where that is not 0, 1 or 2, where the first record's
+ *            form is wrong, and where the text is longer than 4,096 bytes, of which no record is read. It is told of a refused sheet too
+ *   answers  the answers taken, as busdekker_sheet tells; 0 of a refused sheet
+ *   quoted   the most answers that busdekker_quote tells for the opening; 0 of a refused sheet. `answers` is never more
+ */
+struct busdekker_outcome {
+    uint16_t kind;
+    uint16_t method;
+    uint16_t answers;
+    uint16_t quoted;
+};
+
+/* What is told of the outcomes of one method: how many sheets stopped, are unfinished and were refused; and of those not refused the total
+ * answers, the total quoted and the largest number of answers in one search, 0 where there is none. */
+struct busdekker_tally {
+    uint32_t stopped;
+    uint32_t unfinished;
+    uint32_t refused;
+    uint32_t answers;
+    uint32_t quoted;
+    uint32_t largest;
+};
+
+/*
+ * A season report. A number that its kind has not is 0.
+ *
+ *   BUSDEKKER_SEASON   outcomes is their number. tallies[0], [1] and [2] are of the outcomes that carry the method 0, 1 and 2, and
+ *                      tallies[BUSDEKKER_OTHER] of those that carry any other.
+ *   BUSDEKKER_REFUSED  number is 19 and place 0, and every number in the tallies is 0.
+ */
+struct busdekker_season_report {
+    uint32_t kind;
+    uint32_t outcomes;
+    uint32_t number;
+    uint32_t place;
+    struct busdekker_tally tallies[BUSDEKKER_TALLIES];
+};
+
 /* A report, and the search as it then is. */
 struct busdekker_answered {
     struct busdekker_report report;
@@ -282,6 +343,20 @@ struct busdekker_report busdekker_values(struct busdekker_opening opening, const
  * between double quotes. The first record has the opening's five numbers, or four, and the share is then 0; every other has a point and its
  * value. */
 struct busdekker_report busdekker_sheet(const uint8_t *text, size_t length);
+
+/* The outcome of a trial sheet in four numbers, whatever the text is: there is no refusal of this call. `text` points to `length` bytes, any number
+ * of them, which are read and not written; it is not null even where `length` is 0. */
+struct busdekker_outcome busdekker_sheet_outcome(const uint8_t *text, size_t length);
+
+/*
+ * The season report on a run of outcomes. `numbers` points to `length` numbers, four for each outcome in the order of struct busdekker_outcome: kind,
+ * method, answers, quoted. Every number may be given. They are read and not written, and the pointer is not null even where `length` is 0. An
+ * outcome of kind 0 has stopped, of kind 1 is unfinished, and of any other kind was refused; a refused one adds to the count of those refused and to
+ * nothing else. The order of the outcomes does not matter. No sum wraps. The tallies of two runs one after the other are those of each added up, and
+ * the larger of the two largest.
+ * A refusal (19, place 0) says that `length` is above 40,000 or no multiple of 4; no number is then read. No outcome at all is a season of 0.
+ */
+struct busdekker_season_report busdekker_season(const uint16_t *numbers, size_t length);
 
 /*
  * Writes the clean sheet of *search at the beginning of the buffer: the opening with its method as held, in four numbers where its share is 0
@@ -404,6 +479,21 @@ BUSDEKKER_ASSERT(sizeof(struct busdekker_written) == 16, "what is told of a shee
 BUSDEKKER_ASSERT(offsetof(struct busdekker_written, length) == 4, "length stands at 4");
 BUSDEKKER_ASSERT(offsetof(struct busdekker_written, number) == 8, "number stands at 8");
 BUSDEKKER_ASSERT(offsetof(struct busdekker_written, place) == 12, "place stands at 12");
+BUSDEKKER_ASSERT(sizeof(struct busdekker_outcome) == 8, "an outcome has 8 bytes");
+BUSDEKKER_ASSERT(offsetof(struct busdekker_outcome, method) == 2, "method stands at 2");
+BUSDEKKER_ASSERT(offsetof(struct busdekker_outcome, answers) == 4, "answers stand at 4");
+BUSDEKKER_ASSERT(offsetof(struct busdekker_outcome, quoted) == 6, "quoted stands at 6");
+BUSDEKKER_ASSERT(sizeof(struct busdekker_tally) == 24, "a tally has 24 bytes");
+BUSDEKKER_ASSERT(offsetof(struct busdekker_tally, unfinished) == 4, "unfinished stands at 4");
+BUSDEKKER_ASSERT(offsetof(struct busdekker_tally, refused) == 8, "refused stands at 8");
+BUSDEKKER_ASSERT(offsetof(struct busdekker_tally, answers) == 12, "answers stand at 12");
+BUSDEKKER_ASSERT(offsetof(struct busdekker_tally, quoted) == 16, "quoted stands at 16");
+BUSDEKKER_ASSERT(offsetof(struct busdekker_tally, largest) == 20, "largest stands at 20");
+BUSDEKKER_ASSERT(sizeof(struct busdekker_season_report) == 112, "a season report has 112 bytes");
+BUSDEKKER_ASSERT(offsetof(struct busdekker_season_report, outcomes) == 4, "outcomes stand at 4");
+BUSDEKKER_ASSERT(offsetof(struct busdekker_season_report, number) == 8, "number stands at 8");
+BUSDEKKER_ASSERT(offsetof(struct busdekker_season_report, place) == 12, "place stands at 12");
+BUSDEKKER_ASSERT(offsetof(struct busdekker_season_report, tallies) == 16, "tallies stand at 16");
 BUSDEKKER_ASSERT(sizeof(struct busdekker_answered) == 364, "a report and a search have 364 bytes");
 BUSDEKKER_ASSERT(offsetof(struct busdekker_answered, search) == 32, "the search stands at 32");
 

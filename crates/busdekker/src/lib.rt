@@ -12,6 +12,8 @@ ghost use Rattle.registers.specs.Exchange.{exchangedOf, replyBuffer};
 ghost use Rattle.panel_numbers.specs.Numbers.{repliedRowOf};
 ghost use Rattle.dispatching.specs.Dispatching.{freshDispatcher, turnOf, openingAt, answerAt, dryerReport};
 ghost use Rattle.dispatch_numbers.specs.Numbers.{turnNumber};
+ghost use Rattle.seasons.specs.Season.{seasonOf, seasonRowOf};
+ghost use Rattle.seasons.specs.Sheets.{sheetOutcome};
 ghost use Rattle.busdekker.specs.Interface.{version};
 use clean_sheets::WrittenRow;
 use dispatching::Dispatcher;
@@ -21,13 +23,15 @@ use rules::Answer;
 use rules::Opening;
 use rules::Quotation;
 use rules::Row;
+use seasons::Outcome;
+use seasons::SeasonRow;
 
 // The version of this interface.
 #[no_mangle]
 pub extern "C" fn busdekker_version() -> u32
     ensures { λ r. ⌜ r ≡ version ⌝ }
 {
-    9
+    10
 }
 
 // t and the most answers that an opening may need.
@@ -102,6 +106,22 @@ pub extern "C" fn busdekker_sheet(text: &[u8]) -> Row
     ensures { λ r. ⌜ r ≡ rowOf (sheetOf (now (text .entry)) .report) ⌝ }
 {
     asked::sheet_row(text)
+}
+
+// The outcome of a trial sheet as the four numbers of a season's run.
+#[no_mangle]
+pub extern "C" fn busdekker_sheet_outcome(text: &[u8]) -> Outcome
+    ensures { λ r. ⌜ r ≡ sheetOutcome (now (text .entry)) ⌝ }
+{
+    sheet_outcomes::sheet_outcome(text)
+}
+
+// The season report on a run of outcomes, four numbers each.
+#[no_mangle]
+pub extern "C" fn busdekker_season(numbers: &[u16]) -> SeasonRow
+    ensures { λ r. ⌜ r ≡ seasonRowOf (seasonOf (now (numbers .entry))) ⌝ }
+{
+    asked::season_row(numbers)
 }
 
 // Writes the clean sheet of the host's search into the buffer lent, or refuses that.

@@ -11,7 +11,7 @@ use rules::Report;
 // ---- the opening
 
 // Whether z is not from low to high.
-fn beyond(low: u32, high: u32, z: i32) -> bool
+pub fn beyond(low: u32, high: u32, z: i32) -> bool
     ensures { λ r. ⌜ r ≡ outside low high z ⌝ }
 {
     let n = z as i64;

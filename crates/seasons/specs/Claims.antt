@@ -8,12 +8,15 @@ use mathlib.Core.List.{List, [], _∷_, _++_, map, zipWith}
 use lib.IntN.{pos}
 use lib.ListN.{length, getD, set}
 use Rattle.rules.specs.Rules.{slots}
-use Rattle.rules.specs.Search.{isRefusal}
+use Rattle.rules.specs.declared.Quote.{Quote}
+use Rattle.rules.specs.Search.{isRefusal, tOf, quoteOf}
 use Rattle.outcomes.specs.Sheet.{sheetOf}
+use Rattle.clean_sheets.specs.Clean.{rewrittenOf}
 use Rattle.seasons.specs.declared.Outcome.{Outcome}
 use Rattle.seasons.specs.declared.Tally.{Tally}
 use Rattle.seasons.specs.declared.Counted.{Counted}
-use Rattle.seasons.specs.Season.{outcomesOf, wasRefused, bookedAs, sum, talliesOf, mostOutcomes, misshapen, noTally, seasonOf}
+use Rattle.seasons.specs.Season.{outcomesOf, wasRefused, other, bookedAs, sum, tallyOf, bookedUnder, talliesOf}
+use Rattle.seasons.specs.Season.{mostOutcomes, misshapen, noTally, seasonOf}
 use Rattle.seasons.specs.Sheets.{sheetOutcome}
 
 -- ---- words of the claims
@@ -71,3 +74,29 @@ pub record EverySeason : Type 0 where
       }
   -- every outcome is booked, and once
   pub all-booked : (os : List Outcome) → sum (map countedIn (talliesOf os)) ≡ length os
+
+-- ---- of every sheet
+
+pub record SheetClaim (text : List ℕ) : Type 0 where
+  -- its outcome says refused where its report is a refusal, and nowhere else
+  pub refused : wasRefused (sheetOutcome text) ≡ isRefusal (sheetOf text .report)
+  -- it is booked under 0, 1, 2 or as other; no more answers were taken than quoted, and no more quoted than a search has slots
+  pub numbered : sheetOutcome text .method ≤ other
+  pub within : sheetOutcome text .answers ≤ sheetOutcome text .quoted
+  pub few : sheetOutcome text .quoted ≤ slots
+  -- of a sheet that is accepted the method is its opening's, and what is quoted is what was quoted for the opening
+  pub method : isRefusal (sheetOf text .report) ≡ false → pos (sheetOutcome text .method) ≡ sheetOf text .search .opening .method
+  pub quoted : isRefusal (sheetOf text .report) ≡ false
+      → quoteOf (sheetOf text .search .opening) ≡ Quote.Quoted (tOf (sheetOf text .search .opening)) (sheetOutcome text .quoted)
+  -- its clean sheet has the same outcome
+  pub cleaned : isRefusal (sheetOf text .report) ≡ false → sheetOutcome (rewrittenOf text) ≡ sheetOutcome text
+
+-- the tally of the sheets that are booked under k
+abbrev pub sheetsTally : ℕ → List (List ℕ) → Tally
+sheetsTally k texts = tallyOf (bookedUnder k (map sheetOutcome texts))
+
+pub record EverySheet : Type 0 where
+  pub each : (text : List ℕ) → SheetClaim text
+  -- of any number of sheets no method has more answers in all than were quoted in all, and none in one search than a search has slots
+  pub totals : (k : ℕ) (texts : List (List ℕ)) → sheetsTally k texts .answers ≤ sheetsTally k texts .quoted
+  pub largest : (k : ℕ) (texts : List (List ℕ)) → sheetsTally k texts .largest ≤ slots

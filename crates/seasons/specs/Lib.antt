@@ -6,3 +6,4 @@ pub mod ListLaws
 pub mod SeasonLaws
 pub mod RunLaws
 pub mod ClaimsHold
+pub mod SheetsHold

@@ -1,0 +1,87 @@
+-- `sheet_outcomes::sheet_outcome` meets its contract: by the report on the sheet.
+-- Assumes nothing.
+use mathlib.Core.Path.{_≡_, sym, ap, subst, _∙_}
+use native.Mathlib.Omega.{arith}
+use Rattle.rules.specs.declared.Report.{Report}
+use Rattle.held.specs.declared.Entered.{Entered}
+use Rattle.seasons.specs.Sheets.{outcomeBy, sheetOutcome}
+use Rattle.seasons.specs.SheetsHold.{TakenFew, taken-few, every-sheet}
+use borrow.Author.Needs.{needs}
+use Rattle.sheet_outcomes.proofs.sheet_outcome.Statement.{statement}
+use Rattle.sheet_outcomes.proofs.sheet_outcome.Tie as tie
+use Rattle.sheet_outcomes.proofs.sheet_outcome.Reads as reads
+use Rattle.sheet_outcomes.proofs.sheet_outcome.Lts as lts
+use Rattle.sheet.proofs.read_sheet.Reads as read-sheet-reads
+use Rattle.sheet_outcomes.proofs.method_written.Reads as method-written-reads
+use Rattle.sheet_outcomes.proofs.most_quoted.Reads as most-quoted-reads
+
+-- what is returned is what the report makes of the method and the opening
+outcome : (c : tie.After-most-quoted)
+    → let e = c .before .before .read-sheet .result in
+    outcomeBy (c .before .method-written .result) (e .search .opening) (e .report) ≡ sheetOutcome (c .before .before .before .before .args .text .now)
+unfolding sheetOutcome
+outcome c = rw (c .before .method-written .ensures, c .before .before .read-sheet .ensures)
+
+-- the answers taken are few
+few : (c : tie.After-most-quoted) {r : Report} → c .before .before .read-sheet .result .report ≡ r → TakenFew r
+few c e =
+    let s = c .before .before in
+    subst TakenFew (ap (λ (x : Entered). x .report) (sym (s .read-sheet .ensures)) ∙ e) (taken-few (s .before .before .args .text .now))
+
+read-sheet-requires : tie.Need-read-sheet-requires
+read-sheet-requires c κs = search needs
+
+method-written-requires : tie.Need-method-written-requires
+method-written-requires c κs = search needs
+
+most-quoted-requires : tie.Need-most-quoted-requires
+most-quoted-requires c κs = search needs
+
+enum-known-report : tie.Need-enum-known-report
+enum-known-report c = search needs
+
+cast-t9 : tie.Need-cast-t9
+cast-t9 c = let h = few (c .before .before .before) (c .before .report .given .1) in omega arith
+
+enum-known-report-2 : tie.Need-enum-known-report-2
+enum-known-report-2 c = search needs
+
+cast-t10 : tie.Need-cast-t10
+cast-t10 c = let h = few (c .before .before .before) (c .before .report2 .given .1) in omega arith
+
+enum-told : tie.Need-enum-told
+enum-told c = search needs
+
+returns : tie.Need-returns
+returns c =
+    let q = c .before .before .before in
+    let e = q .before .before .read-sheet .result in
+    (rw (q .most-quoted .ensures) (sym (ap (outcomeBy (q .before .method-written .result) (e .search .opening)) (c .before .report .given .1)) ∙ outcome q), every-sheet)
+
+returns-2 : tie.Need-returns-2
+returns-2 c =
+    let q = c .before .before .before in
+    let e = q .before .before .read-sheet .result in
+    (rw (q .most-quoted .ensures) (sym (ap (outcomeBy (q .before .method-written .result) (e .search .opening)) (c .before .report2 .given .1)) ∙ outcome q), every-sheet)
+
+returns-3 : tie.Need-returns-3
+returns-3 c =
+    let q = c .before .before in
+    let e = q .before .before .read-sheet .result in
+    (sym (ap (outcomeBy (q .before .method-written .result) (e .search .opening)) (c .enum-told .given .1)) ∙ outcome q, every-sheet)
+
+pub sheet-outcome-spec : {M : Type 1} → statement M
+sheet-outcome-spec =
+    tie.close
+    (tie.spec
+    read-sheet-requires
+    method-written-requires
+    most-quoted-requires
+    enum-known-report
+    cast-t9
+    enum-known-report-2
+    cast-t10
+    enum-told
+    returns
+    returns-2
+    returns-3)

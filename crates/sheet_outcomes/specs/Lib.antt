@@ -1,0 +1,2 @@
+-- Laws for the proofs of the functions; nothing here is to be believed.
+pub mod WrittenLaws
