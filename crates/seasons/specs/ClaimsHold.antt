@@ -18,7 +18,8 @@ use Rattle.seasons.specs.Season.{mostOutcomes, misshapen, noTally, refus
 use Rattle.seasons.specs.Claims.{written, Reordered, added, oneMoreRefused, countedIn, EverySeason}
 use Rattle.seasons.specs.ListLaws.{taken-out, length-reordered}
 use Rattle.seasons.specs.SeasonLaws.{tally-append, tallies-append, tallies-reordered, tallies-more}
-use Rattle.seasons.specs.RunLaws.{run-whole, run-read, written-length, outcomes-length, outcomes-append, one-refused, Shaped, shaped, misshapen-not, season-counted}
+use Rattle.seasons.specs.RunLaws.{run-whole, run-read, written-length, outcomes-length, outcomes-append, one-refused, Shaped, shaped, misshapen-not}
+use Rattle.seasons.specs.RunLaws.{season-counted}
 
 -- ---- the order does not matter
 
@@ -52,7 +53,8 @@ refused-only : (os ps : List Outcome) (o : Outcome) → wasRefused o ≡ true
 refused-only os ps o e =
     tallies-reordered (taken-out os ps o)
     ∙ tallies-more (os ++ ps) o
-    ∙ ap (λ (t : Tally). set (talliesOf (os ++ ps)) (bookedAs o) (added (getD (talliesOf (os ++ ps)) (bookedAs o) noTally) t)) (one-refused o (refused-kind o e))
+    ∙ ap (λ (t : Tally). set (talliesOf (os ++ ps)) (bookedAs o) (added (getD (talliesOf (os ++ ps)) (bookedAs o) noTally) t))
+    (one-refused o (refused-kind o e))
 
 -- ---- two runs one after the other
 

@@ -1,7 +1,7 @@
 -- Laws of lists: what a filter, a sum and a maximum make of lists joined, and of one in another order.
 -- Assumes nothing.
 use Prim.Native.Nat.{ℕ, suc, _+_, max}
-use mathlib.Core.Path.{_≡_, refl, sym, ap, _∙_}
+use mathlib.Core.Path.{_≡_, refl, ap, _∙_}
 use mathlib.Core.Bool.{Bool, true, false, cond}
 use mathlib.Core.List.{List, [], _∷_, _++_, map}
 use native.Mathlib.Omega.{arith}

@@ -2,7 +2,7 @@
 -- Assumes nothing.
 use Prim.Native.Nat.{ℕ, zero, suc, _+_, _*_, _/_, _%_, _≤_, _<_, max}
 use mathlib.Core.Path.{_≡_, refl, sym, ap, _∙_}
-use mathlib.Core.Bool.{Bool, true, false, cond, not, _||_}
+use mathlib.Core.Bool.{Bool, true, false, not, _||_}
 use mathlib.Core.List.{List, [], _∷_, _++_}
 use native.Mathlib.Nat.{add-zero, max-le, max-zero}
 use native.Mathlib.Numerals.{add-one}
@@ -14,7 +14,7 @@ use Rattle.integers.specs.SignsLaws.{never}
 use Rattle.seasons.specs.declared.Outcome.{Outcome}
 use Rattle.seasons.specs.declared.Tally.{Tally}
 use Rattle.seasons.specs.declared.Counted.{Counted}
-use Rattle.seasons.specs.Season.{outcomesOf, hasStopped, isUnfinished, notRefused, wasRefused, bookedAs, filter, sum, maximum, tallyOf, talliesOf}
+use Rattle.seasons.specs.Season.{outcomesOf, bookedAs, filter, sum, maximum, tallyOf, talliesOf}
 use Rattle.seasons.specs.Season.{mostOutcomes, misshapen, noTally, refusedSeason, seasonOn, seasonOf}
 use Rattle.seasons.specs.Claims.{written, added}
 use Rattle.seasons.specs.SeasonLaws.{tallies-more}

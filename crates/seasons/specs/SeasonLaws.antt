@@ -1,17 +1,19 @@
 -- Laws of tallies and reports: of outcomes joined, of one more, in another order; and that the numbers stay small.
 -- Assumes nothing.
-use Prim.Native.Nat.{ℕ, zero, suc, _+_, _*_, _≤_, max}
-use mathlib.Core.Path.{_≡_, refl, sym, ap, ap₂, _∙_}
-use mathlib.Core.Bool.{Bool, true, false, cond}
+use Prim.Native.Nat.{ℕ, zero, suc, _+_, _≤_, max}
+use mathlib.Core.Path.{_≡_, ap, _∙_}
+use mathlib.Core.Bool.{Bool, cond}
 use mathlib.Core.List.{List, [], _∷_, _++_, map, zipWith, append-nil}
 use native.Mathlib.Omega.{arith}
 use lib.Dec.{eqb}
 use lib.ListN.{length, getD, set, length-append}
 use Rattle.seasons.specs.declared.Outcome.{Outcome}
 use Rattle.seasons.specs.declared.Tally.{Tally}
-use Rattle.seasons.specs.Season.{hasStopped, isUnfinished, notRefused, wasRefused, other, bookedAs, filter, sum, maximum, tallyOf, bookedUnder, talliesOf, noTally}
+use Rattle.seasons.specs.Season.{hasStopped, isUnfinished, notRefused, wasRefused, other, bookedAs, filter, sum, maximum, tallyOf, bookedUnder}
+use Rattle.seasons.specs.Season.{talliesOf, noTally}
 use Rattle.seasons.specs.Claims.{Reordered, added}
-use Rattle.seasons.specs.ListLaws.{filter-append, map-append, sum-append, maximum-append, filter-reordered, map-reordered, length-reordered, sum-reordered, maximum-reordered}
+use Rattle.seasons.specs.ListLaws.{filter-append, map-append, sum-append, maximum-append, filter-reordered, map-reordered, length-reordered}
+use Rattle.seasons.specs.ListLaws.{sum-reordered, maximum-reordered}
 
 -- ---- joined
 

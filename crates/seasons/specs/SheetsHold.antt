@@ -1,7 +1,7 @@
 -- The claim on every sheet holds: its method is the one of the opening that it is read as, and the bound on the answers is the search's.
 -- Assumes nothing.
-use Prim.Native.Nat.{ℕ, _+_, _≤_}
-use mathlib.Core.Path.{_≡_, refl, sym, ap, ap₂, subst, _∙_}
+use Prim.Native.Nat.{ℕ, _≤_}
+use mathlib.Core.Path.{_≡_, refl, sym, ap, _∙_}
 use mathlib.Core.Bool.{Bool, true, false, cond}
 use mathlib.Core.List.{List, [], _∷_, map}
 use native.Mathlib.Omega.{arith}
@@ -27,14 +27,15 @@ use Rattle.forms.specs.declared.Entries.{Entries}
 use Rattle.forms.specs.declared.AnswerRecord.{AnswerRecord}
 use Rattle.forms.specs.declared.OpeningRecord.{OpeningRecord}
 use Rattle.forms.specs.Text.{recordsOf}
-use Rattle.forms.specs.Entries.{tooLong, tooMany, malformed, longestText, wholeText, openingPlace, answerPlace, answerOf, openingOf, refused, opened as openedAs, entered, answersFrom, recordsRead, entriesOf}
-use Rattle.outcomes.specs.Sheet.{leadsTo, keptOf, keptAs, refusedAt, settledAs, outcomeOf, judged, sheetOf}
+use Rattle.forms.specs.Entries.{tooLong, tooMany, malformed, longestText, wholeText, openingPlace, answerPlace, answerOf, openingOf, refused}
+use Rattle.forms.specs.Entries.{opened as openedAs, entered, answersFrom, recordsRead, entriesOf}
+use Rattle.outcomes.specs.Sheet.{leadsTo, refusedAt, settledAs, outcomeOf, judged, sheetOf}
 use Rattle.clean_sheets.specs.Clean.{rewrittenOf}
 use Rattle.clean_sheets.specs.ClaimsHold.{rewritten}
 use Rattle.seasons.specs.declared.Outcome.{Outcome}
 use Rattle.seasons.specs.Season.{other, notRefused, wasRefused, bookedAs, filter, sum, maximum, tallyOf, bookedUnder}
 use Rattle.seasons.specs.Sheets.{methodNumber, methodIn, methodOfFirst, methodWritten, mostQuoted, outcomeBy, sheetOutcome}
-use Rattle.seasons.specs.Claims.{SheetClaim, sheetsTally, EverySheet}
+use Rattle.seasons.specs.Claims.{SheetClaim, EverySheet}
 
 -- ---- the method as written is the method that is read
 

@@ -1,19 +1,17 @@
 -- The method as written, by what the scanner of the opening finds at the beginning of a text.
 -- Assumes nothing.
 use Prim.Native.Nat.{ℕ, _≤_, _<_}
-use mathlib.Core.Path.{_≡_, refl, ap, _∙_}
+use mathlib.Core.Path.{_≡_, refl, ap}
 use mathlib.Core.List.{List, [], _∷_}
 use native.Mathlib.Omega.{arith}
 use borrow.Author.Tests.{lt-ltb, le-ltb}
 use lib.ListN.{length}
-use Rattle.rules.specs.declared.Opening.{Opening}
-use Rattle.forms.specs.declared.OpeningRecord.{OpeningRecord}
 use Rattle.forms.specs.Text.{recordsOf, fieldsOf}
 use Rattle.forms.specs.Entries.{longestText, openingOf}
 use Rattle.scanning.specs.Scan.{recordLength, firstRecord}
 use Rattle.scanning.specs.First.{records-step}
 use Rattle.seasons.specs.Season.{other}
-use Rattle.seasons.specs.Sheets.{methodNumber, methodIn, methodOfFirst, methodWritten}
+use Rattle.seasons.specs.Sheets.{methodIn, methodOfFirst, methodWritten}
 
 pub written-long : (s : List ℕ) → longestText < length s → other ≡ methodWritten s
 unfolding methodWritten

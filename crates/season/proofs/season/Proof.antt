@@ -24,7 +24,8 @@ no-tally-requires c κs = search needs
 returns : tie.Need-returns
 returns c =
     let i = c .before in
-    (rw (c .no-tally .ensures) (season-refused (i .before .before .before .args .outcomes .now) (sym (i .before .is-misshapen .ensures) ∙ i .if1 .taken)), every-season)
+    let told = season-refused (i .before .before .before .args .outcomes .now) (sym (i .before .is-misshapen .ensures) ∙ i .if1 .taken) in
+    (rw (c .no-tally .ensures) told, every-season)
 
 cast-count : tie.Need-cast-count
 cast-count c = omega (arith, shaped (length (c .before .before .before .args .outcomes .now)) (going c) .few)

@@ -1,22 +1,16 @@
 -- `season::tallies_of` meets its contract. The loop's invariant: the tallies are those of the outcomes read so far, and small.
 -- Assumes nothing.
-use Prim.Native.Nat.{ℕ, _+_, _-_, _*_, _/_, _≤_, _<_}
-use mathlib.Core.Path.{_≡_, sym, ap, _∙_}
+use Prim.Native.Nat.{ℕ, suc, _+_, _-_, _*_, _≤_}
+use mathlib.Core.Path.{ap, _∙_}
 use native.Mathlib.Omega.{arith}
 use borrow.Author.Needs.{needs}
 use mathlib.Core.List.{List}
-use lib.ListN.{length}
+use lib.ListN.{length, getD}
 use lib.Seq.{take-all}
 use Rattle.seasons.specs.Season.{outcomesOf, talliesOf, mostOutcomes}
-use Rattle.seasons.specs.RunLaws.{Tallied, tallied-none, tallied-more, small-at, small-within, shaped}
+use Rattle.seasons.specs.RunLaws.{largestNumber, Tallied, tallied-none, tallied-more, small-at, small-within, shaped}
 use Rattle.season.proofs.tallies_of.Statement.{statement}
 use Rattle.season.proofs.tallies_of.Tie as tie
-use Rattle.season.proofs.tallies_of.Reads as reads
-use Rattle.season.proofs.tallies_of.Lts as lts
-use Rattle.season.proofs.booked_as.Reads as booked-as-reads
-use Rattle.season.proofs.no_tally.Reads as no-tally-reads
-use Rattle.season.proofs.outcome_at.Reads as outcome-at-reads
-use Rattle.season.proofs.with_outcome.Reads as with-outcome-reads
 
 abbrev Inv-loop : tie.InvT-loop
 Inv-loop numbers n tallies₀ i₀ tallies i = (i ≤ n) × Tallied numbers i tallies
@@ -69,7 +63,10 @@ loop-again c =
     let ns = s .args .numbers .now in
     let i = l .before .loop .i in
     let given = l .before .before .before .shared-slice-known .given in
-    let more = tallied-more ns i (l .before .loop .tallies) (l .before .loop .inv .1) (omega (arith, l .loop-test .taken)) (omega (arith, given (4 * i + 2))) (omega (arith, given (4 * i + 3))) in
+    let room : 4 * suc i ≤ length ns = omega (arith, l .loop-test .taken) in
+    let answers : getD ns (4 * i + 2) 0 ≤ largestNumber = omega (arith, given (4 * i + 2)) in
+    let quoted : getD ns (4 * i + 3) 0 ≤ largestNumber = omega (arith, given (4 * i + 3)) in
+    let more = tallied-more ns i (l .before .loop .tallies) (l .before .loop .inv .1) room answers quoted in
     (omega (arith, l .loop-test .taken), rw (c .with-outcome .ensures, c .before .before .booked-as .ensures, o .outcome-at .ensures) more)
 
 returns : tie.Need-returns Inv-loop μ-loop

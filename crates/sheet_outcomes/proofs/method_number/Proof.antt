@@ -3,6 +3,7 @@
 use mathlib.Core.Path.{_≡_, sym, _∙_}
 use mathlib.Core.Bool.{false}
 use native.Mathlib.Omega.{arith}
+use lib.IntN.{natAbs}
 use mir.Syntax.{w32}
 use mir.Val.{toZ, ofZ}
 use Rattle.rules.specs.Refusals.{outside}
@@ -19,6 +20,9 @@ read-back s = search needs
 tested : (c : tie.After-beyond) → c .beyond .result ≡ outside 0 2 (c .before .args .method)
 tested c = rw (read-back (c .before)) at (c .beyond .ensures)
 
+measured : (c : tie.After-magnitude) → c .magnitude .result ≡ natAbs (c .before .before .before .args .method)
+measured c = rw (read-back (c .before .before .before)) at (c .magnitude .ensures)
+
 -- a method in its range
 inside : (c : tie.Else1) → outside 0 2 (c .before .before .args .method) ≡ false
 inside c = sym (tested (c .before)) ∙ c .if1 .left
@@ -34,11 +38,11 @@ magnitude-requires : tie.Need-magnitude-requires
 magnitude-requires c κs = search needs
 
 cast-result : tie.Need-cast-result
-cast-result c = omega (arith, rw (read-back (c .before .before .before)) at (c .magnitude .ensures), ranged 0 2 (c .before .before .before .args .method) (inside (c .before)) .most)
+cast-result c = omega (arith, measured c, ranged 0 2 (c .before .before .before .args .method) (inside (c .before)) .most)
 
 returns-2 : tie.Need-returns-2
 unfolding methodNumber
-returns-2 c = simp (inside (c .before)) (rw (read-back (c .before .before .before)) at (c .magnitude .ensures))
+returns-2 c = simp (inside (c .before)) (measured c)
 
 pub method-number-spec : {M : Type 1} → statement M
 method-number-spec = tie.close (tie.spec beyond-requires returns magnitude-requires cast-result returns-2)

@@ -1,18 +1,13 @@
 -- `sheet_outcomes::most_quoted` meets its contract: a quote is taken apart.
 -- Assumes nothing.
-use Prim.Native.Nat.{_≤_}
 use mathlib.Core.Path.{_≡_, sym, ap, _∙_}
 use native.Mathlib.Omega.{arith}
-use Rattle.rules.specs.Rules.{slots}
 use Rattle.rules.specs.Search.{quoteOf}
 use Rattle.seasons.specs.Sheets.{mostQuoted}
 use Rattle.seasons.specs.SheetsHold.{quoted-few}
 use borrow.Author.Needs.{needs}
 use Rattle.sheet_outcomes.proofs.most_quoted.Statement.{statement}
 use Rattle.sheet_outcomes.proofs.most_quoted.Tie as tie
-use Rattle.sheet_outcomes.proofs.most_quoted.Reads as reads
-use Rattle.sheet_outcomes.proofs.most_quoted.Lts as lts
-use Rattle.search.proofs.quote.Reads as quote-reads
 
 -- what is quoted is found in the quote
 found : (c : tie.After-known-told) → c .before .most .given .0 .1 .0 ≡ mostQuoted (quoteOf (c .before .before .before .before .args .opening))

@@ -9,18 +9,14 @@ use Rattle.seasons.specs.SheetsHold.{TakenFew, taken-few, every-sheet}
 use borrow.Author.Needs.{needs}
 use Rattle.sheet_outcomes.proofs.sheet_outcome.Statement.{statement}
 use Rattle.sheet_outcomes.proofs.sheet_outcome.Tie as tie
-use Rattle.sheet_outcomes.proofs.sheet_outcome.Reads as reads
-use Rattle.sheet_outcomes.proofs.sheet_outcome.Lts as lts
-use Rattle.sheet.proofs.read_sheet.Reads as read-sheet-reads
-use Rattle.sheet_outcomes.proofs.method_written.Reads as method-written-reads
-use Rattle.sheet_outcomes.proofs.most_quoted.Reads as most-quoted-reads
 
--- what is returned is what the report makes of the method and the opening
-outcome : (c : tie.After-most-quoted)
-    → let e = c .before .before .read-sheet .result in
-    outcomeBy (c .before .method-written .result) (e .search .opening) (e .report) ≡ sheetOutcome (c .before .before .before .before .args .text .now)
+-- the outcome, by the report r on the sheet
+told : (c : tie.After-most-quoted) {r : Report}
+    → c .before .before .read-sheet .result .report ≡ r
+    → outcomeBy (c .before .method-written .result) (c .before .before .read-sheet .result .search .opening) r
+    ≡ sheetOutcome (c .before .before .before .before .args .text .now)
 unfolding sheetOutcome
-outcome c = rw (c .before .method-written .ensures, c .before .before .read-sheet .ensures)
+told c e = rw (← e, c .before .method-written .ensures, c .before .before .read-sheet .ensures)
 
 -- the answers taken are few
 few : (c : tie.After-most-quoted) {r : Report} → c .before .before .read-sheet .result .report ≡ r → TakenFew r
@@ -53,22 +49,13 @@ enum-told : tie.Need-enum-told
 enum-told c = search needs
 
 returns : tie.Need-returns
-returns c =
-    let q = c .before .before .before in
-    let e = q .before .before .read-sheet .result in
-    (rw (q .most-quoted .ensures) (sym (ap (outcomeBy (q .before .method-written .result) (e .search .opening)) (c .before .report .given .1)) ∙ outcome q), every-sheet)
+returns c = let q = c .before .before .before in (rw (q .most-quoted .ensures) (told q (c .before .report .given .1)), every-sheet)
 
 returns-2 : tie.Need-returns-2
-returns-2 c =
-    let q = c .before .before .before in
-    let e = q .before .before .read-sheet .result in
-    (rw (q .most-quoted .ensures) (sym (ap (outcomeBy (q .before .method-written .result) (e .search .opening)) (c .before .report2 .given .1)) ∙ outcome q), every-sheet)
+returns-2 c = let q = c .before .before .before in (rw (q .most-quoted .ensures) (told q (c .before .report2 .given .1)), every-sheet)
 
 returns-3 : tie.Need-returns-3
-returns-3 c =
-    let q = c .before .before in
-    let e = q .before .before .read-sheet .result in
-    (sym (ap (outcomeBy (q .before .method-written .result) (e .search .opening)) (c .enum-told .given .1)) ∙ outcome q, every-sheet)
+returns-3 c = (told (c .before .before) (c .enum-told .given .1), every-sheet)
 
 pub sheet-outcome-spec : {M : Type 1} → statement M
 sheet-outcome-spec =
