@@ -6,6 +6,8 @@
 
 static const char *refusal_in_words(uint32_t number) {
     switch (number) {
+    case BUSDEKKER_MISSHAPEN_RUN:
+        return "the run has more than 10,000 outcomes, or its numbers are not in whole fours";
     case BUSDEKKER_REPLY_TOO_SHORT:
         return "the buffer for the reply is shorter than 16 bytes";
     case BUSDEKKER_NO_SUCH_DRYER:

@@ -5,6 +5,9 @@
 #include <cstring>
 #include <initializer_list>
 #include <string>
+#include <vector>
+
+#include <sys/mman.h>
 
 static_assert(BUSDEKKER_LONGEST_CLEAN_SHEET == 1102, "the longest clean sheet has 1,102 bytes");
 
@@ -198,6 +201,87 @@ static bool serves_a_panel() {
     return same && replies(&search, bytes({3, 0, 2, 0, 3}), bytes({3, 6, 234, 94, 234, 96, 234, 94}));
 }
 
+// A tally has these numbers.
+static bool tells(const busdekker_tally &tally, const busdekker_tally &expected) {
+    bool same = tally.stopped == expected.stopped && tally.unfinished == expected.unfinished && tally.refused == expected.refused;
+    return same && tally.answers == expected.answers && tally.quoted == expected.quoted && tally.largest == expected.largest;
+}
+
+// The text has this outcome.
+static bool comes_out(const std::string &text, uint16_t kind, uint16_t method, uint16_t answers, uint16_t quoted) {
+    const busdekker_outcome outcome = busdekker_sheet_outcome(reinterpret_cast<const uint8_t *>(text.data()), text.size());
+    return outcome.kind == kind && outcome.method == method && outcome.answers == answers && outcome.quoted == quoted;
+}
+
+// The outcomes of sheets: stopped, unfinished, and refused for what stands after the first record, in it, or for their length.
+static bool outcomes_of_sheets() {
+    const std::string begun = "1,0,100,1\r\n0,-50\r\n100,100\r\n33,-10\r\n41,-2\r\n", highest_point = std::to_string(highest);
+    bool same = comes_out(begun + "43,1\r\n", BUSDEKKER_SHEET_STOPPED, BUSDEKKER_M, 5, 26);
+    same = same && comes_out(begun, BUSDEKKER_SHEET_UNFINISHED, BUSDEKKER_M, 4, 26);
+    same = same && comes_out("0,0," + highest_point + ",1,100", BUSDEKKER_SHEET_UNFINISHED, BUSDEKKER_HOUSE, 0, BUSDEKKER_SLOTS);
+    same = same && comes_out(begun + "42,1\r\n", BUSDEKKER_SHEET_REFUSED, BUSDEKKER_M, 0, 0);
+    same = same && comes_out("0,0,100,1\r\nx", BUSDEKKER_SHEET_REFUSED, BUSDEKKER_HOUSE, 0, 0);
+    same = same && comes_out("2,7,7,1\r\n", BUSDEKKER_SHEET_REFUSED, BUSDEKKER_R, 0, 0);
+    for (const char *method : {"3", "7", "-1", "65536", "99999", "000001", "x", ""}) {
+        same = same && comes_out(method + std::string(",0,100,1\r\n"), BUSDEKKER_SHEET_REFUSED, BUSDEKKER_OTHER, 0, 0);
+    }
+    std::string text = begun;
+    text.resize(BUSDEKKER_LONGEST_SHEET, '0');
+    same = same && comes_out("", BUSDEKKER_SHEET_REFUSED, BUSDEKKER_OTHER, 0, 0) && comes_out(text, BUSDEKKER_SHEET_REFUSED, BUSDEKKER_M, 0, 0);
+    return same && comes_out(text + "0", BUSDEKKER_SHEET_REFUSED, BUSDEKKER_OTHER, 0, 0);
+}
+
+// A refused season: every number but its own is 0.
+static bool misshapen(const busdekker_season_report &report) {
+    busdekker_season_report refused = {};
+    refused.kind = BUSDEKKER_REFUSED;
+    refused.number = BUSDEKKER_MISSHAPEN_RUN;
+    return std::memcmp(&report, &refused, sizeof report) == 0;
+}
+
+// A run of five outcomes, in this order and backwards: two by M, and a refused one that carries more answers than they do; one with the house
+// default; one with method 7.
+static bool counts_a_season() {
+    const uint16_t run[] = {0, 1, 9, 58, 1, 1, 12, 30, 2, 1, 70, 72, 0, 0, 4, 6, 1, 7, 0, 2};
+    const uint16_t backwards[] = {1, 7, 0, 2, 0, 0, 4, 6, 2, 1, 70, 72, 1, 1, 12, 30, 0, 1, 9, 58};
+    const size_t length = sizeof run / sizeof run[0];
+    bool same = true;
+    for (const uint16_t *numbers : {run, backwards}) {
+        const busdekker_season_report report = busdekker_season(numbers, length);
+        same = same && report.kind == BUSDEKKER_SEASON && report.outcomes == 5 && report.number == 0 && report.place == 0;
+        same = same && tells(report.tallies[BUSDEKKER_HOUSE], {1, 0, 0, 4, 6, 4}) && tells(report.tallies[BUSDEKKER_M], {1, 1, 1, 21, 88, 12});
+        same = same && tells(report.tallies[BUSDEKKER_R], {0, 0, 0, 0, 0, 0}) && tells(report.tallies[BUSDEKKER_OTHER], {0, 1, 0, 0, 2, 0});
+    }
+    const busdekker_season_report none = busdekker_season(run, 0);
+    same = same && none.kind == BUSDEKKER_SEASON && none.outcomes == 0 && tells(none.tallies[BUSDEKKER_M], {0, 0, 0, 0, 0, 0});
+    return same && misshapen(busdekker_season(run, 3)) && misshapen(busdekker_season(run, length - 1));
+}
+
+// 10,000 outcomes with the highest numbers are counted. One number more is refused and one outcome more, and of these no number is read: they stand
+// where nothing may be read.
+static bool limits_of_seasons() {
+    const size_t most = BUSDEKKER_MOST_OUTCOMES * BUSDEKKER_OUTCOME_NUMBERS;
+    std::vector<uint16_t> run(most, 65535);
+    bool same = tells(busdekker_season(run.data(), most).tallies[BUSDEKKER_OTHER], {0, 0, BUSDEKKER_MOST_OUTCOMES, 0, 0, 0});
+    for (size_t k = 0; k < most; k += BUSDEKKER_OUTCOME_NUMBERS) {
+        run[k] = BUSDEKKER_SHEET_STOPPED;
+        run[k + 1] = BUSDEKKER_R;
+    }
+    const busdekker_tally highest_tally = {BUSDEKKER_MOST_OUTCOMES, 0, 0, 655350000, 655350000, 65535};
+    same = same && tells(busdekker_season(run.data(), most).tallies[BUSDEKKER_R], highest_tally);
+    const size_t bytes = 4 * most;
+    void *unreadable = mmap(nullptr, bytes, PROT_NONE, MAP_PRIVATE | MAP_ANONYMOUS, -1, 0);
+    if (unreadable == MAP_FAILED) {
+        return false;
+    }
+    const uint16_t *numbers = static_cast<const uint16_t *>(unreadable);
+    for (const size_t length : {size_t{1}, size_t{2}, size_t{3}, most - 1, most + 1, most + 4, 2 * most}) {
+        same = same && misshapen(busdekker_season(numbers, length));
+    }
+    same = same && busdekker_season(numbers, 0).kind == BUSDEKKER_SEASON;
+    return munmap(unreadable, bytes) == 0 && same;
+}
+
 // The calls on a dispatcher: dryers 4 and 1 are opened, 1 has the turn first, and then 4.
 static bool dispatches(busdekker_opening opening, busdekker_opening refused) {
     const busdekker_answer answer = {0, -1};
@@ -243,5 +327,6 @@ int main() {
     same = same && written.kind == BUSDEKKER_WRITTEN && written.length == sizeof clean - 1 && std::memcmp(buffer, clean, written.length) == 0;
     same = same && busdekker_write(&search, buffer, written.length - 1).number == BUSDEKKER_BUFFER_TOO_SHORT;
     same = same && changes_over() && serves_a_panel() && dispatches(opening, refused) && limits_of_ends() && limits_of_shares() && tolerance_with_a_share();
+    same = same && outcomes_of_sheets() && counts_a_season() && limits_of_seasons();
     return same && limits_of_counts(opening) && limits_of_sheets() ? 0 : 1;
 }

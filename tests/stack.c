@@ -2,8 +2,8 @@
  * The stack that the calls of include/busdekker.h need, measured. Each call is made by a function that does nothing else, on a stack that was
  * painted before; how far down the paint is gone, less what an empty function uses there, is what the call needs, with what its caller puts on
  * the stack to pass and return structs. Each call is tried at every answer of four long searches, by M and by R, without a share and with one,
- * and on refused openings; those on a dispatcher at every answer of a morning with six such searches. The program prints the largest figure for
- * each call, and exits 1 if one is above its limit, BUSDEKKER_STACK or BUSDEKKER_DISPATCHER_STACK.
+ * and on refused openings; those on a dispatcher at every answer of a morning with six such searches; and the season report on a run of 10,000
+ * outcomes. The program prints the largest figure for each call, and exits 1 if one is above its limit, BUSDEKKER_STACK or BUSDEKKER_DISPATCHER_STACK.
  */
 #define _XOPEN_SOURCE 700
 
@@ -30,6 +30,7 @@ static int32_t point, value;
 static char text[BUSDEKKER_LONGEST_SHEET];
 static size_t length;
 static uint8_t clean[BUSDEKKER_LONGEST_CLEAN_SHEET];
+static uint16_t run[BUSDEKKER_MOST_OUTCOMES * BUSDEKKER_OUTCOME_NUMBERS];
 static struct busdekker_dispatcher dispatcher, other_dispatcher;
 static uint32_t dryer;
 static uint32_t kinds;
@@ -69,6 +70,20 @@ static void values(void) {
 
 static void sheet(void) {
     kinds += busdekker_sheet((const uint8_t *)text, length).kind;
+}
+
+/* Of the sheet, of one that lacks its last byte and is refused, and of no text. */
+static void sheet_outcome(void) {
+    kinds += busdekker_sheet_outcome((const uint8_t *)text, length).kind;
+    kinds += busdekker_sheet_outcome((const uint8_t *)text, length - 1).kind;
+    kinds += busdekker_sheet_outcome((const uint8_t *)text, 0).kind;
+}
+
+/* On the whole run, on one that is refused, and on no outcome. */
+static void season(void) {
+    kinds += busdekker_season(run, sizeof run / sizeof run[0]).kind;
+    kinds += busdekker_season(run, sizeof run / sizeof run[0] - 1).kind;
+    kinds += busdekker_season(run, 0).kind;
 }
 
 /* Into a buffer that is always enough, and into one that never is. */
@@ -158,7 +173,8 @@ static struct call on_searches[] = {
     {"busdekker_version", version, 0}, {"busdekker_quote", quote, 0},       {"busdekker_open", open_anew, 0},
     {"busdekker_entered", entered, 0}, {"busdekker_ask", ask, 0},           {"busdekker_values", values, 0},
     {"busdekker_sheet", sheet, 0},     {"busdekker_write", write_clean, 0}, {"busdekker_change_over", change_over, 0},
-    {"busdekker_panel", panel, 0},     {"busdekker_enter", enter, 0},
+    {"busdekker_panel", panel, 0},     {"busdekker_season", season, 0},     {"busdekker_sheet_outcome", sheet_outcome, 0},
+    {"busdekker_enter", enter, 0},
 };
 static struct call on_dispatchers[] = {
     {"busdekker_dispatch_fresh", dispatch_fresh, 0}, {"busdekker_dispatch_turn", dispatch_turn, 0},
@@ -237,7 +253,18 @@ static void morning_through(void) {
     measure(on_dispatchers, ON_DISPATCHERS);
 }
 
+/* Outcomes of every kind, under every method and another, with any number of answers. */
+static void fill_run(void) {
+    for (size_t k = 0; k < sizeof run / sizeof run[0]; k += BUSDEKKER_OUTCOME_NUMBERS) {
+        run[k] = (uint16_t)(k / 4 % 3);
+        run[k + 1] = (uint16_t)(k / 12 % 4);
+        run[k + 2] = (uint16_t)k;
+        run[k + 3] = (uint16_t)(k + BUSDEKKER_SLOTS);
+    }
+}
+
 int main(void) {
+    fill_run();
     for (int32_t share = 0; share <= 1; share++) {
         search_through(BUSDEKKER_M, share);
         search_through(BUSDEKKER_R, share);

@@ -3,7 +3,7 @@
 
 use crate::model::{self, Book};
 use crate::sheets;
-use crate::types::{Opening, Quotation, Report, Search, Written};
+use crate::types::{Opening, Quotation, Report, Search, SeasonReport, Written};
 use std::fmt::{self, Debug};
 
 /// The error tells of the mismatch, with its input.
@@ -87,12 +87,17 @@ impl Kinds {
 
     /// Tells them all. One that came too seldom is a mismatch.
     pub fn all_came(&self, of: &str) -> Checked {
+        self.each_came(of, LEAST)
+    }
+
+    /// The same where each must come so often at least.
+    pub fn each_came(&self, of: &str, least: u64) -> Checked {
         let kinds = self.0.iter();
         let told: Vec<String> = kinds.map(|(name, n)| format!("{name} {n}")).collect();
         println!("{of}: {}", told.join(", "));
         for (name, n) in &self.0 {
-            agree(true, *n >= LEAST, || {
-                format!("{of}: {name} came {n} times, to be at least {LEAST}")
+            agree(true, *n >= least, || {
+                format!("{of}: {name} came {n} times, to be at least {least}")
             })?;
         }
         Ok(())
@@ -107,7 +112,9 @@ pub struct Tally {
     stop: u64,
     quoted: u64,
     written: u64,
-    refused: [u64; 19],
+    outcomes: u64,
+    seasons: u64,
+    refused: [u64; 20],
 }
 
 impl Tally {
@@ -132,19 +139,33 @@ impl Tally {
             _ => self.refused[written.number as usize] += 1,
         }
     }
+
+    /// The outcome of a sheet is told of every text, and has no number of a refusal.
+    pub fn count_outcome(&mut self) {
+        self.outcomes += 1;
+    }
+
+    pub fn count_season(&mut self, report: &SeasonReport) {
+        match report.kind {
+            SeasonReport::SEASON => self.seasons += 1,
+            _ => self.refused[report.number as usize] += 1,
+        }
+    }
 }
 
 impl fmt::Display for Tally {
     fn fmt(&self, f: &mut fmt::Formatter) -> fmt::Result {
         let refused: u64 = self.refused.iter().sum();
-        let told = self.next + self.stop + self.quoted + self.written + refused;
-        write!(f, "told {told}")?;
         let kinds = [
             ("next", self.next),
             ("stop", self.stop),
             ("quoted", self.quoted),
             ("written", self.written),
+            ("outcome", self.outcomes),
+            ("season", self.seasons),
         ];
+        let others: u64 = kinds.iter().map(|(_, times)| times).sum();
+        write!(f, "told {}", others + refused)?;
         for (kind, times) in kinds.iter().filter(|(_, times)| *times > 0) {
             write!(f, ", {kind} {times}")?;
         }

@@ -1,12 +1,15 @@
 //! The C interface of the proved library, include/busdekker.h, behind safe functions.
 
-use crate::types::{Answer, Answered, Dispatcher, Opening, Quotation, Report, Search, Written};
+use crate::types::{
+    Answer, Answered, Dispatcher, Opening, Outcome, Quotation, Report, Search, SeasonReport,
+    Written,
+};
 
 /// Who answers.
 pub const WHO: &str = "the proved library, target/staticlib/libbusdekker.a";
 
 /// The version of the interface that is declared here.
-pub const VERSION: u32 = 9;
+pub const VERSION: u32 = 10;
 
 extern "C" {
     fn busdekker_version() -> u32;
@@ -18,6 +21,8 @@ extern "C" {
     fn busdekker_change_over(search: *mut Search) -> Report;
     fn busdekker_values(opening: Opening, values: *const i32, length: usize) -> Report;
     fn busdekker_sheet(text: *const u8, length: usize) -> Report;
+    fn busdekker_sheet_outcome(text: *const u8, length: usize) -> Outcome;
+    fn busdekker_season(numbers: *const u16, length: usize) -> SeasonReport;
     fn busdekker_write(search: *const Search, buffer: *mut u8, size: usize) -> Written;
     fn busdekker_panel(
         search: *mut Search,
@@ -86,6 +91,18 @@ pub fn values(opening: &Opening, values: &[i32]) -> Report {
 pub fn sheet(text: &[u8]) -> Report {
     // The pointer and the length are those of a slice, which is only read.
     unsafe { busdekker_sheet(text.as_ptr(), text.len()) }
+}
+
+/// The outcome of a sheet in four numbers, as a season takes them.
+pub fn sheet_outcome(text: &[u8]) -> Outcome {
+    // The pointer and the length are those of a slice, which is only read.
+    unsafe { busdekker_sheet_outcome(text.as_ptr(), text.len()) }
+}
+
+/// The season report on a run of outcomes, four numbers for each.
+pub fn season(numbers: &[u16]) -> SeasonReport {
+    // The pointer and the length are those of a slice, which is only read.
+    unsafe { busdekker_season(numbers.as_ptr(), numbers.len()) }
 }
 
 /// The clean sheet of a held search, written at the beginning of the buffer.

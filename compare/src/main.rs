@@ -12,7 +12,7 @@ use compare::model::{self, Book};
 use compare::oven::dispatchers;
 use compare::rng::Rng;
 use compare::types::{Opening, Report, Search};
-use compare::{beam, ffi, old_default, panel, panel_runs, shares, sheets};
+use compare::{beam, ffi, old_default, panel, panel_runs, season, season_sheets, shares, sheets};
 use std::process::ExitCode;
 use std::time::Instant;
 
@@ -60,7 +60,7 @@ fn main() -> ExitCode {
 /// All parts in turn, and the number of cases.
 fn compare(rng: &mut Rng) -> Result<u64, String> {
     let mut cases = 0;
-    let parts: [(&str, Part); 20] = [
+    let parts: [(&str, Part); 22] = [
         ("lists of values", lists),
         ("runs of the trial book, from a fresh search", runs),
         ("calls in a row on searches that hold anything", held),
@@ -84,6 +84,11 @@ fn compare(rng: &mut Rng) -> Result<u64, String> {
         ("openings with the house default", old_default::house),
         ("requests to the panel", panel::requests),
         ("requests to the panel, in runs", panel_runs::runs),
+        ("runs of outcomes", season::runs),
+        (
+            "outcomes of sheets, and seasons",
+            season_sheets::sheet_outcomes,
+        ),
     ];
     for (name, part) in parts {
         let start = Instant::now();

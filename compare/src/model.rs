@@ -658,6 +658,17 @@ pub fn read(text: &[u8]) -> Result<Book, Report> {
     TODAY.read(text)
 }
 
+/// The opening in the first record of a text, in range or not, and whatever stands in the others. None
+/// where the form of that record is wrong, where it is absent, and where the text is too long to be
+/// read.
+pub fn first_record(text: &[u8]) -> Option<Opening> {
+    if text.len() > 4_096 {
+        return None;
+    }
+    let record = *records(text).first()?;
+    row(record, 4..=5).map(|head| opening_of(&head))
+}
+
 /// The opening of a first record of four numbers or five; with four, the share is 0.
 fn opening_of(head: &[i32]) -> Opening {
     let share = if head.len() == 5 { head[4] } else { 0 };

@@ -244,7 +244,7 @@ pub fn texts(rng: &mut Rng, tally: &mut Tally) -> Checked {
 
 /// Every spelling of 0: with a minus and without, in quotes and without; and with a digit too many
 /// or none.
-fn zeros() -> Vec<String> {
+pub fn zeros() -> Vec<String> {
     let mut zeros = Vec::new();
     for digits in 0..=6 {
         let size = "0".repeat(digits);
@@ -257,7 +257,7 @@ fn zeros() -> Vec<String> {
 
 /// What may stand after the method. The first is document 01's sheet by M, and the second the same
 /// with its wrong point; the third is asked by R.
-const AFTER_THE_METHOD: [&str; 7] = [
+pub const AFTER_THE_METHOD: [&str; 7] = [
     ",0,100,1\r\n0,-50\r\n100,100\r\n33,-10\r\n41,-2\r\n43,1\r\n",
     ",0,100,1\r\n0,-50\r\n100,100\r\n33,-10\r\n41,-2\r\n42,1\r\n",
     ",0,100,1\r\n0,-50\r\n100,100\r\n33,-10\r\n40,-5\r\n",

@@ -2,8 +2,9 @@
 //! arithmetic, nothing on the heap. It is the benchmark's baseline.
 
 use crate::types::{
-    Answer, Answered, Dispatcher, Opening, Quotation, Report, Search, Written, DRYERS,
-    LONGEST_CLEAN_SHEET, LONGEST_REPLY, NOBODY, REGISTERS, SLOTS,
+    Answer, Answered, Dispatcher, MethodTally, Opening, Outcome, Quotation, Report, Search,
+    SeasonReport, Written, DRYERS, LONGEST_CLEAN_SHEET, LONGEST_REPLY, MOST_OUTCOMES, NOBODY,
+    OUTCOME_NUMBERS, REGISTERS, SLOTS, TALLIES,
 };
 
 const HIGHEST_POINT: i32 = 60_000;
@@ -14,6 +15,7 @@ const LONGEST_TEXT: usize = 4_096;
 const SERVED_CEILING: u32 = 1_000_000_000;
 const LARGEST_QUANTITY: usize = 125;
 const VALUE_ENTRY: u16 = 6;
+const OTHER: u16 = 3;
 
 /// A point and its value.
 #[derive(Clone, Copy, PartialEq, Eq, Hash)]
@@ -376,6 +378,50 @@ pub fn sheet(text: &[u8]) -> Report {
         }
     }
     walk.report()
+}
+
+/// The outcome of a sheet in four numbers. Its first record is read once more for it.
+pub fn sheet_outcome(text: &[u8]) -> Outcome {
+    let opening = match text.len() {
+        0..=LONGEST_TEXT => Reader { rest: text }.opening(),
+        _ => None,
+    };
+    let method = match &opening {
+        Some(opening) if (0..=2).contains(&opening.method) => opening.method as u16,
+        _ => OTHER,
+    };
+    let report = sheet(text);
+    let kind = match report.kind {
+        Report::STOP => Outcome::STOPPED,
+        Report::NEXT => Outcome::UNFINISHED,
+        _ => return Outcome::new(Outcome::REFUSED, method, 0, 0),
+    };
+    let most = opening.map_or(0, |opening| quote(&opening).most);
+    Outcome::new(kind, method, report.taken as u16, most as u16)
+}
+
+/// The season report on a run of outcomes, four numbers for each, in one walk over them.
+pub fn season(numbers: &[u16]) -> SeasonReport {
+    let (run, rest) = numbers.as_chunks::<OUTCOME_NUMBERS>();
+    if run.len() > MOST_OUTCOMES || !rest.is_empty() {
+        return SeasonReport::refuse(19);
+    }
+    let mut tallies = [MethodTally::default(); TALLIES];
+    for &[kind, method, answers, quoted] in run {
+        let tally = &mut tallies[usize::from(method.min(OTHER))];
+        match kind {
+            Outcome::STOPPED => tally.stopped += 1,
+            Outcome::UNFINISHED => tally.unfinished += 1,
+            _ => {
+                tally.refused += 1;
+                continue;
+            }
+        }
+        tally.answers += u32::from(answers);
+        tally.quoted += u32::from(quoted);
+        tally.largest = tally.largest.max(answers.into());
+    }
+    SeasonReport::season(run.len() as u32, tallies)
 }
 
 /// Reads the records: the opening and how many answers there are, or refusal 11 or 12.

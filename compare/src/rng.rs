@@ -37,6 +37,13 @@ impl Rng {
         list[self.below(list.len())]
     }
 
+    /// Puts the list into another order.
+    pub fn shuffle<T>(&mut self, list: &mut [T]) {
+        for at in (1..list.len()).rev() {
+            list.swap(at, self.below(at + 1));
+        }
+    }
+
     /// A value's size, 0 to 10,000, each order of magnitude as likely as the next.
     pub fn size(&mut self) -> i32 {
         let digits = self.below(15);

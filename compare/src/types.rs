@@ -23,6 +23,13 @@ pub const REGISTERS: usize = 7;
 /// register.
 pub const LONGEST_REPLY: usize = 2 + 2 * REGISTERS;
 
+/// The most outcomes of a season, and the numbers of each.
+pub const MOST_OUTCOMES: usize = 10_000;
+pub const OUTCOME_NUMBERS: usize = 4;
+
+/// The tallies of a season report: of the methods 0, 1 and 2, and of any other.
+pub const TALLIES: usize = 4;
+
 /// An opening: method, x0, x1, τ and p, each as it was offered.
 #[repr(C)]
 #[derive(Clone, Copy, Debug, PartialEq, Eq)]
@@ -258,6 +265,99 @@ impl Written {
     }
 }
 
+/// The outcome of a sheet, each number as it was offered.
+#[repr(C)]
+#[derive(Clone, Copy, Debug, PartialEq, Eq)]
+pub struct Outcome {
+    pub kind: u16,
+    pub method: u16,
+    pub answers: u16,
+    pub quoted: u16,
+}
+
+impl Outcome {
+    pub const STOPPED: u16 = 0;
+    pub const UNFINISHED: u16 = 1;
+    pub const REFUSED: u16 = 2;
+
+    pub const fn new(kind: u16, method: u16, answers: u16, quoted: u16) -> Self {
+        Outcome {
+            kind,
+            method,
+            answers,
+            quoted,
+        }
+    }
+
+    /// The four numbers in the order of a run.
+    pub const fn numbers(self) -> [u16; OUTCOME_NUMBERS] {
+        [self.kind, self.method, self.answers, self.quoted]
+    }
+}
+
+/// What is told of the outcomes of one method: how many stopped, are unfinished and were refused, and
+/// the total answers, the total quoted and the largest number of answers.
+#[repr(C)]
+#[derive(Clone, Copy, Debug, Default, PartialEq, Eq)]
+pub struct MethodTally {
+    pub stopped: u32,
+    pub unfinished: u32,
+    pub refused: u32,
+    pub answers: u32,
+    pub quoted: u32,
+    pub largest: u32,
+}
+
+impl MethodTally {
+    /// The numbers in the order in which they are told.
+    pub const fn numbers(self) -> [u32; 6] {
+        [
+            self.stopped,
+            self.unfinished,
+            self.refused,
+            self.answers,
+            self.quoted,
+            self.largest,
+        ]
+    }
+}
+
+/// A season report: the number of outcomes and the tally of each method, or a refusal. A number that
+/// its kind has not is 0.
+#[repr(C)]
+#[derive(Clone, Copy, Debug, PartialEq, Eq)]
+pub struct SeasonReport {
+    pub kind: u32,
+    pub outcomes: u32,
+    pub number: u32,
+    pub place: u32,
+    pub tallies: [MethodTally; TALLIES],
+}
+
+impl SeasonReport {
+    pub const SEASON: u32 = 6;
+
+    pub const fn season(outcomes: u32, tallies: [MethodTally; TALLIES]) -> Self {
+        SeasonReport {
+            kind: Self::SEASON,
+            outcomes,
+            number: 0,
+            place: 0,
+            tallies,
+        }
+    }
+
+    pub fn refuse(number: u32) -> Self {
+        SeasonReport {
+            kind: Report::REFUSED,
+            outcomes: 0,
+            number,
+            place: 0,
+            tallies: [MethodTally::default(); TALLIES],
+        }
+    }
+}
+
 /// A report, and beside it the search as it then is.
 #[repr(C)]
 #[derive(Clone, Copy, Debug, PartialEq, Eq)]
@@ -298,6 +398,21 @@ const _: () = {
     assert!(offset_of!(Written, length) == 4);
     assert!(offset_of!(Written, number) == 8);
     assert!(offset_of!(Written, place) == 12);
+    assert!(size_of::<Outcome>() == 8);
+    assert!(offset_of!(Outcome, method) == 2);
+    assert!(offset_of!(Outcome, answers) == 4);
+    assert!(offset_of!(Outcome, quoted) == 6);
+    assert!(size_of::<MethodTally>() == 24);
+    assert!(offset_of!(MethodTally, unfinished) == 4);
+    assert!(offset_of!(MethodTally, refused) == 8);
+    assert!(offset_of!(MethodTally, answers) == 12);
+    assert!(offset_of!(MethodTally, quoted) == 16);
+    assert!(offset_of!(MethodTally, largest) == 20);
+    assert!(size_of::<SeasonReport>() == 112);
+    assert!(offset_of!(SeasonReport, outcomes) == 4);
+    assert!(offset_of!(SeasonReport, number) == 8);
+    assert!(offset_of!(SeasonReport, place) == 12);
+    assert!(offset_of!(SeasonReport, tallies) == 16);
     assert!(size_of::<Answered>() == 364);
     assert!(offset_of!(Answered, search) == 32);
 };

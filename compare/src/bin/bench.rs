@@ -4,8 +4,8 @@
 
 use compare::rng::Rng;
 use compare::types::{
-    Answer, Answered, Dispatcher, Opening, Report, Search, Written, DRYERS, LONGEST_CLEAN_SHEET,
-    LONGEST_REPLY,
+    Answer, Answered, Dispatcher, Opening, Outcome, Report, Search, SeasonReport, Written, DRYERS,
+    LONGEST_CLEAN_SHEET, LONGEST_REPLY, MOST_OUTCOMES,
 };
 use compare::{beam, cases, ffi, model, plain, requests, sheets};
 use std::hint::black_box;
@@ -59,6 +59,8 @@ struct Calls {
     entered: fn(Search, i32, i32) -> Answered,
     values: fn(&Opening, &[i32]) -> Report,
     sheet: fn(&[u8]) -> Report,
+    sheet_outcome: fn(&[u8]) -> Outcome,
+    season: fn(&[u16]) -> SeasonReport,
     write: fn(&Search, &mut [u8]) -> Written,
     panel: fn(&mut Search, &[u8], &mut [u8]) -> Written,
     dispatch_enter: fn(&mut Dispatcher, u32, Answer) -> Report,
@@ -70,6 +72,8 @@ const LIBRARY: Calls = Calls {
     entered: ffi::entered,
     values: ffi::values,
     sheet: ffi::sheet,
+    sheet_outcome: ffi::sheet_outcome,
+    season: ffi::season,
     write: ffi::write,
     panel: ffi::panel,
     dispatch_enter: ffi::dispatch_enter,
@@ -81,6 +85,8 @@ const PLAIN: Calls = Calls {
     entered: plain::entered,
     values: plain::values,
     sheet: plain::sheet,
+    sheet_outcome: plain::sheet_outcome,
+    season: plain::season,
     write: plain::write,
     panel: plain::panel,
     dispatch_enter: plain::dispatch_enter,
@@ -100,7 +106,7 @@ const BEFORE: [usize; 6] = [2, 10, 20, 40, 60, 69];
 fn main() {
     println!("bench: seed {SEED}; what answers is {}", ffi::WHO);
     println!("Median of {REPETITIONS} repetitions of each, library and plain.rs by turns.");
-    println!("Buffers (searches, lists, sheets, requests) are prepared before and outside the timed part.");
+    println!("Buffers (searches, lists, sheets, requests, runs) are prepared before and outside the timed part.");
     println!(
         "An answer is entered into a search that holds the ones before it, each walked again."
     );
@@ -110,6 +116,7 @@ fn main() {
     table("usual searches", &works);
     dispatchers(&works);
     panels(&works);
+    seasons(&works);
     let long = long(&mut rng);
     table("long searches", &long);
     println!("an answer into the host's search, by the answers that it holds already:");
@@ -234,6 +241,36 @@ fn entries(work: &Work) -> Shift {
 fn read_half_way(work: &Work) -> Shift {
     let search = work.holding(work.values.len() / 2);
     (search, vec![requests::READ_ALL])
+}
+
+/// Two lines: the outcomes of the works' sheets, and a season of as many outcomes as there may be.
+fn seasons(works: &[Work]) {
+    let numbers = season_of(works);
+    println!("{} sheets, and a season of {MOST_OUTCOMES}:", works.len());
+    line(
+        "  the outcome of a sheet",
+        works,
+        works.len(),
+        &reading_outcomes,
+    );
+    let timed = |calls, _: &[Work]| reporting(calls, &numbers);
+    line("  a season report", works, 1, &timed);
+}
+
+/// A season of the works' sheets, over and over. One outcome in eight is made a refused one, and one an
+/// unfinished one.
+fn season_of(works: &[Work]) -> Vec<u16> {
+    let mut rng = Rng::new(SEED);
+    let sheets = works.iter().map(|work| plain::sheet_outcome(&work.sheet));
+    let mut run: Vec<Outcome> = sheets.cycle().take(MOST_OUTCOMES).collect();
+    for outcome in &mut run {
+        match rng.below(8) {
+            0 => outcome.kind = Outcome::REFUSED,
+            1 => outcome.kind = Outcome::UNFINISHED,
+            _ => (),
+        }
+    }
+    run.iter().flat_map(|outcome| outcome.numbers()).collect()
 }
 
 /// How the cost of an answer, entered into the host's search, grows with the answers before it.
@@ -387,6 +424,22 @@ fn reading(calls: Calls, works: &[Work]) -> f64 {
     for work in works {
         black_box((calls.sheet)(black_box(&work.sheet)));
     }
+    start.elapsed().as_nanos() as f64
+}
+
+/// The outcome of every work's sheet.
+fn reading_outcomes(calls: Calls, works: &[Work]) -> f64 {
+    let start = Instant::now();
+    for work in works {
+        black_box((calls.sheet_outcome)(black_box(&work.sheet)));
+    }
+    start.elapsed().as_nanos() as f64
+}
+
+/// The report on a season.
+fn reporting(calls: Calls, numbers: &[u16]) -> f64 {
+    let start = Instant::now();
+    black_box((calls.season)(black_box(numbers)));
     start.elapsed().as_nanos() as f64
 }
 

@@ -1,18 +1,20 @@
-//! The programs clean, zeroin and old_default beside the model: each is run on texts of every kind,
-//! from a fixed seed, and what it writes is compared. It ends with the number of runs and exit status
-//! 0, or with the first mismatch and exit status 1.
+//! The programs clean, zeroin and old_default and the command season beside the model: each is run
+//! on texts of every kind, from a fixed seed, and what it writes is compared. It ends with the
+//! number of runs and exit status 0, or with the first mismatch and exit status 1.
 
 #![forbid(unsafe_code)]
 
 use compare::checks::{agree, Checked};
 use compare::model::{self, Book, Reading, OLD, TODAY};
 use compare::rng::Rng;
+use compare::season_model;
 use compare::sheets::{self, Text};
-use compare::types::{Opening, Report};
+use compare::types::{MethodTally, Opening, Report, SeasonReport, TALLIES};
 use compare::{beam, cases};
 use std::io::{ErrorKind, Write};
 use std::path::{Path, PathBuf};
 use std::process::{Command, ExitCode, Output, Stdio};
+use std::{env, fs, process};
 
 const SEED: u64 = 1975;
 const TEXTS: usize = 1_500;
@@ -20,6 +22,12 @@ const OLD_TEXTS: usize = 600;
 
 /// How many of the longest orders that the beam finds are tried, by M and by R each.
 const ORDERS: usize = 10;
+
+/// How many of the texts are put into files for season; the most of them in one season; and how
+/// many seasons of each number of sheets.
+const FILES: usize = 400;
+const MOST_SHEETS: usize = 60;
+const SEASONS: usize = 3;
 
 fn main() -> ExitCode {
     match programs(&mut Rng::new(SEED)) {
@@ -34,14 +42,15 @@ fn main() -> ExitCode {
     }
 }
 
-/// Every text on the three programs. What was tried is told in words.
+/// Every text on the three programs, and some of them on season. What was tried is told in words.
 fn programs(rng: &mut Rng) -> Result<String, String> {
     let mut three = Programs {
-        clean: built("clean")?,
-        zeroin: built("zeroin")?,
-        old_default: built("old_default")?,
+        clean: built("clean", "rt check clean")?,
+        zeroin: built("zeroin", "rt check zeroin")?,
+        old_default: built("old_default", "rt check old_default")?,
         runs: 0,
     };
+    let season = built("season", "make target/bin/season")?;
     let texts = [texts(rng), old_texts(rng)].concat();
     let mut accepted = 0;
     let mut old = Old::default();
@@ -52,9 +61,10 @@ fn programs(rng: &mut Rng) -> Result<String, String> {
     }
     let (runs, all) = (three.runs, texts.len());
     let old = old.told()?;
+    let seasons = seasons(&season, &texts, rng)?;
     Ok(format!(
         "{runs} runs of clean, zeroin and old_default on {all} texts, {accepted} of them sheets to \
-         clean; {old}"
+         clean; {old}; {seasons}"
     ))
 }
 
@@ -185,15 +195,13 @@ fn clean_sheet(book: &Book) -> Vec<u8> {
     model::clean(&book.search()).expect("a book holds accepted answers")
 }
 
-/// Where `rt check` leaves a program.
-fn built(name: &str) -> Result<PathBuf, String> {
+/// Where a program is left that this line builds.
+fn built(name: &str, by: &str) -> Result<PathBuf, String> {
     let repository = Path::new(env!("CARGO_MANIFEST_DIR")).join("..");
     let program = repository.join("target/bin").join(name);
     match program.is_file() {
         true => Ok(program),
-        false => Err(format!(
-            "target/bin/{name} is not there; `rt check {name}` builds it"
-        )),
+        false => Err(format!("target/bin/{name} is not there; `{by}` builds it")),
     }
 }
 
@@ -261,16 +269,27 @@ fn same(program: &str, text: &[u8], expected: &[u8], written: &[u8]) -> Checked 
     agree(shown(expected), shown(written), input)
 }
 
-/// What a program writes when it is given a text. Words on standard error are a mistake, and so is
-/// an end by a signal.
+/// What a program writes when it is given a text.
 fn run(program: &Path, text: &[u8]) -> Result<Vec<u8>, String> {
+    let output = output(program, text);
+    written(program, output, || {
+        format!("standard input: {}", sheets::show(text))
+    })
+}
+
+/// What a program wrote. Words on standard error are a mistake, and so is an end by a signal.
+fn written(
+    program: &Path,
+    output: std::io::Result<Output>,
+    input: impl Fn() -> String,
+) -> Result<Vec<u8>, String> {
     let name = program.display();
-    let output = output(program, text).map_err(|e| format!("{name} cannot be run: {e}"))?;
+    let output = output.map_err(|e| format!("{name} cannot be run: {e}"))?;
     if !output.status.success() || !output.stderr.is_empty() {
         let words = sheets::show(&output.stderr);
-        let (status, text) = (output.status, sheets::show(text));
+        let (status, input) = (output.status, input());
         return Err(format!(
-            "{name} ended with {status} and the words {words:?}, on standard input: {text}"
+            "{name} ended with {status} and the words {words:?}, on {input}"
         ));
     }
     Ok(output.stdout)
@@ -290,4 +309,132 @@ fn output(program: &Path, text: &[u8]) -> std::io::Result<Output> {
         _ => drop(input),
     }
     child.wait_with_output()
+}
+
+/// A folder for sheets, which goes with this.
+struct Folder(PathBuf);
+
+impl Folder {
+    fn new() -> Result<Self, String> {
+        let folder = env::temp_dir().join(format!("compare-programs-{}", process::id()));
+        fs::create_dir(&folder).map_err(|e| format!("{}: {e}", folder.display()))?;
+        Ok(Folder(folder))
+    }
+
+    /// A text in a file of its own.
+    fn keep(&self, name: &str, text: &[u8]) -> Result<PathBuf, String> {
+        let file = self.0.join(name);
+        fs::write(&file, text).map_err(|e| format!("{}: {e}", file.display()))?;
+        Ok(file)
+    }
+}
+
+impl Drop for Folder {
+    fn drop(&mut self) {
+        // Left behind it does no harm.
+        let _ = fs::remove_dir_all(&self.0);
+    }
+}
+
+/// A file, and the text in it.
+type Sheet<'a> = (PathBuf, &'a [u8]);
+
+/// season on many sets of sheets, from one sheet on. What was tried is told in words.
+fn seasons(program: &Path, texts: &[Vec<u8>], rng: &mut Rng) -> Result<String, String> {
+    let folder = Folder::new()?;
+    let mut sheets: Vec<Sheet> = Vec::new();
+    for n in 0..FILES {
+        let text = &texts[rng.below(texts.len())];
+        sheets.push((folder.keep(&format!("{n}.csv"), text)?, text));
+    }
+    let mut runs = 0;
+    for count in (1..=MOST_SHEETS).flat_map(|count| [count; SEASONS]) {
+        let one = |_| &sheets[rng.below(sheets.len())];
+        let set: Vec<&Sheet> = (0..count).map(one).collect();
+        runs += season_agrees(program, &set)?;
+    }
+    let all: Vec<&Sheet> = sheets.iter().collect();
+    runs += season_agrees(program, &all)?;
+    let sheets = all_kinds(&model_season(&all))?;
+    Ok(format!("{runs} runs of season on {FILES} files, {sheets}"))
+}
+
+/// How many of the sheets are of each kind, in words. It is a mistake if there is no sheet of one,
+/// by one of the methods, or none that is booked as other.
+fn all_kinds(report: &SeasonReport) -> Result<String, String> {
+    let sum = |of: fn(&MethodTally) -> u32| report.tallies.iter().map(of).sum::<u32>();
+    let [by_0, by_1, by_2, other] = report.tallies;
+    let words = format!(
+        "{} stopped, {} unfinished and {} refused, {} of these with none of the methods",
+        sum(|t| t.stopped),
+        sum(|t| t.unfinished),
+        sum(|t| t.refused),
+        other.refused
+    );
+    let kinds = [by_0, by_1, by_2].map(|t| [t.stopped, t.unfinished, t.refused]);
+    match kinds.concat().contains(&0) || other.refused == 0 {
+        true => Err(format!("not every kind of sheet was tried: {words}")),
+        false => Ok(words),
+    }
+}
+
+/// The model's report on the season of these sheets.
+fn model_season(set: &[&Sheet]) -> SeasonReport {
+    let outcomes = set
+        .iter()
+        .map(|(_, text)| season_model::sheet_outcome(text));
+    let numbers: Vec<u16> = outcomes.flat_map(|outcome| outcome.numbers()).collect();
+    season_model::season(&numbers)
+}
+
+/// season prints what the model says of a set of sheets, in columns and as comma-separated values.
+/// It gives the number of runs.
+fn season_agrees(program: &Path, set: &[&Sheet]) -> Result<u64, String> {
+    let report = model_season(set);
+    let in_columns = table(&report, ["0 house", "1 M", "2 R", "other"], columns);
+    let as_csv = table(&report, ["0", "1", "2", "other"], record);
+    for (option, expected) in [(None, in_columns), (Some("--csv"), as_csv)] {
+        let sheets = set.iter().map(|(_, text)| Text(text.to_vec()));
+        let sheets: Vec<Text> = sheets.collect();
+        let input = || format!("season with the option {option:?} on the sheets {sheets:?}");
+        let mut command = Command::new(program);
+        command.args(option).args(set.iter().map(|(file, _)| file));
+        let printed = written(program, command.stdin(Stdio::null()).output(), input)?;
+        agree(Text(expected.into_bytes()), Text(printed), input)?;
+    }
+    Ok(2)
+}
+
+/// What is told of each method, in this order.
+const HEAD: [&str; 6] = [
+    "stopped",
+    "unfinished",
+    "refused",
+    "answers",
+    "quoted",
+    "largest",
+];
+
+/// A line of what season prints: its first field and the others.
+type Line = fn(&str, [String; 6]) -> String;
+
+/// The head and a line for each method, which has this name.
+fn table(report: &SeasonReport, names: [&str; TALLIES], line: Line) -> String {
+    let mut lines = line("method", HEAD.map(String::from));
+    for (name, tally) in names.iter().zip(report.tallies) {
+        lines += &line(name, tally.numbers().map(|number| number.to_string()));
+    }
+    lines
+}
+
+/// A line in columns: the first begins at the left, 7 wide, and the others end at the right, 12
+/// wide.
+fn columns(first: &str, others: [String; 6]) -> String {
+    let others = others.map(|other| format!("{other:>12}")).concat();
+    format!("{first:<7}{others}\n")
+}
+
+/// A record of RFC 4180.
+fn record(first: &str, others: [String; 6]) -> String {
+    format!("{first},{}\r\n", others.join(","))
 }
