@@ -30,7 +30,7 @@ pub fn values_row(opening: Opening, values: &[i32]) -> Row
 pub fn sheet_row(text: &[u8]) -> Row
     ensures { λ r. ⌜ r ≡ rowOf (sheetOf (now (text .entry)) .report) ⌝ }
 {
-    let outcome = sheet::read_sheet(text);
+    let outcome = sheet::brief_of(text);
     let told = outcome.report;
     rows::row_of(told)
 }

@@ -51,10 +51,10 @@ pub fn sheet_outcome(text: &[u8]) -> Outcome
     ensures { λ r. ⌜ r ≡ sheetOutcome (now (text .entry)) ⌝ }
     ensures { λ _. ⌜ EverySheet ⌝ }
 {
-    let e = sheet::read_sheet(text);
+    let brief = sheet::brief_of(text);
     let method = method_written(text);
-    let quoted = most_quoted(e.search.opening);
-    let report = e.report;
+    let quoted = most_quoted(brief.opening);
+    let report = brief.report;
     match report {
         Report::Stop {
             lower: _,

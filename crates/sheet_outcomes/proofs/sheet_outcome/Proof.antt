@@ -1,9 +1,8 @@
 -- `sheet_outcomes::sheet_outcome` meets its contract: by the report on the sheet.
 -- Assumes nothing.
-use mathlib.Core.Path.{_≡_, sym, ap, subst, _∙_}
+use mathlib.Core.Path.{_≡_, sym, subst, _∙_}
 use native.Mathlib.Omega.{arith}
 use Rattle.rules.specs.declared.Report.{Report}
-use Rattle.held.specs.declared.Entered.{Entered}
 use Rattle.seasons.specs.Sheets.{outcomeBy, sheetOutcome}
 use Rattle.seasons.specs.SheetsHold.{TakenFew, taken-few, every-sheet}
 use borrow.Author.Needs.{needs}
@@ -12,20 +11,22 @@ use Rattle.sheet_outcomes.proofs.sheet_outcome.Tie as tie
 
 -- the outcome, by the report r on the sheet
 told : (c : tie.After-most-quoted) {r : Report}
-    → c .before .before .read-sheet .result .report ≡ r
-    → outcomeBy (c .before .method-written .result) (c .before .before .read-sheet .result .search .opening) r
+    → c .before .before .brief-of .result .report ≡ r
+    → outcomeBy (c .before .method-written .result) (c .before .before .brief-of .result .opening) r
     ≡ sheetOutcome (c .before .before .before .before .args .text .now)
 unfolding sheetOutcome
-told c e = rw (← e, c .before .method-written .ensures, c .before .before .read-sheet .ensures)
+told c e =
+    let b = c .before .before .brief-of .ensures in
+    rw (← e, c .before .method-written .ensures, b .0, b .1)
 
 -- the answers taken are few
-few : (c : tie.After-most-quoted) {r : Report} → c .before .before .read-sheet .result .report ≡ r → TakenFew r
+few : (c : tie.After-most-quoted) {r : Report} → c .before .before .brief-of .result .report ≡ r → TakenFew r
 few c e =
     let s = c .before .before in
-    subst TakenFew (ap (λ (x : Entered). x .report) (sym (s .read-sheet .ensures)) ∙ e) (taken-few (s .before .before .args .text .now))
+    subst TakenFew (sym (s .brief-of .ensures .0) ∙ e) (taken-few (s .before .before .args .text .now))
 
-read-sheet-requires : tie.Need-read-sheet-requires
-read-sheet-requires c κs = search needs
+brief-of-requires : tie.Need-brief-of-requires
+brief-of-requires c κs = search needs
 
 method-written-requires : tie.Need-method-written-requires
 method-written-requires c κs = search needs
@@ -61,7 +62,7 @@ pub sheet-outcome-spec : {M : Type 1} → statement M
 sheet-outcome-spec =
     tie.close
     (tie.spec
-    read-sheet-requires
+    brief-of-requires
     method-written-requires
     most-quoted-requires
     enum-known-report
