@@ -245,6 +245,19 @@ module _ (method : ℕ) (o : Opening) where
   by-quoted (Report.Stop lower upper better taken) h = refl
   by-quoted (Report.Refused n i) h = never h
 
+-- the opening that is read may stand in the place of the search's: where they differ, the sheet is refused
+pub outcome-read : (text : List ℕ) → outcomeBy (methodWritten text) (entriesOf text .opening) (sheetOf text .report) ≡ sheetOutcome text
+unfolding sheetOutcome
+outcome-read text = go (sheetOf text .report) refl
+  where
+    go : (r : Report) → sheetOf text .report ≡ r
+        → outcomeBy (methodWritten text) (entriesOf text .opening) r ≡ outcomeBy (methodWritten text) (sheetOf text .search .opening) r
+    go (Report.Next point taken) e =
+        ap (λ (o : Opening). outcomeBy (methodWritten text) o (Report.Next point taken)) (sym (sheet-read text (ap isRefusal e) .opening))
+    go (Report.Stop lower upper better taken) e =
+        ap (λ (o : Opening). outcomeBy (methodWritten text) o (Report.Stop lower upper better taken)) (sym (sheet-read text (ap isRefusal e) .opening))
+    go (Report.Refused n i) e = refl
+
 -- the answers of every sheet fit a search
 abbrev pub TakenFew : Report → Type 0
 TakenFew (Report.Next point taken) = taken ≤ slots

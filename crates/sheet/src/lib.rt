@@ -1,15 +1,18 @@
 // Trial sheets: the outcome of a text, what is told of it in short, and its report as bytes.
 ghost use mathlib.Core.Path.{_≡_};
 ghost use Rattle.printing.specs.Printed.{recordOf, placed, placedLength};
+ghost use Rattle.forms.specs.Entries.{entriesOf};
 ghost use Rattle.outcomes.specs.Sheet.{sheetOf};
+use forms::Form;
 use held::Entered;
 use rules::Opening;
 use rules::Report;
 
-// What is told of a text in short: its report, and the opening of the search that it is, a blank's beside a refusal.
+// What is told of a text in short: whether it is read, the opening that is read, every number 0 where none is, and the report.
 pub struct Brief {
-    pub report: Report,
+    pub form: Form,
     pub opening: Opening,
+    pub report: Report,
 }
 
 // The outcome of a text of any length: its report, and the held search that it is.
@@ -20,15 +23,22 @@ pub fn read_sheet(text: &[u8]) -> Entered
     settled::judge(e)
 }
 
-// The outcome of a text in short. What the interface for C asks of a sheet goes through here, so that the reader has one caller there, and the
+// The same in short, without the search. What the interface for C asks of a sheet goes through here: the reader has one caller there, and the
 // compiler puts it in line.
 pub fn brief_of(text: &[u8]) -> Brief
-    ensures { λ r. ⌜ (r .report ≡ sheetOf (now (text .entry)) .report) × (r .opening ≡ sheetOf (now (text .entry)) .search .opening) ⌝ }
+    ensures { λ r. ⌜ (r .form ≡ entriesOf (now (text .entry)) .form) × (r .opening ≡ entriesOf (now (text .entry)) .opening)
+        × (r .report ≡ sheetOf (now (text .entry)) .report) ⌝ }
 {
-    let e = read_sheet(text);
-    let report = e.report;
-    let opening = e.search.opening;
-    Brief { report, opening }
+    let e = records::read_records(text);
+    let form = e.form;
+    let opening = e.opening;
+    let outcome = settled::judge(e);
+    let report = outcome.report;
+    Brief {
+        form,
+        opening,
+        report,
+    }
 }
 
 // The outcome of a text as a record's bytes, written at the beginning of `out`, and their number; `out` too short is left alone, and

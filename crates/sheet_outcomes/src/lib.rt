@@ -1,12 +1,15 @@
 // The outcome of a trial sheet as the four numbers of a season's run.
 ghost use mathlib.Core.Path.{_≡_};
 ghost use Rattle.rules.specs.Search.{quoteOf};
+ghost use Rattle.forms.specs.Entries.{entriesOf};
 ghost use Rattle.seasons.specs.Sheets.{methodNumber, methodWritten, mostQuoted, sheetOutcome};
 ghost use Rattle.seasons.specs.Claims.{EverySheet};
+ghost use Rattle.sheet_outcomes.specs.WrittenLaws.{hasOpening};
+use forms::Form;
 use rules::Opening;
 use rules::Quote;
 use rules::Report;
-use scanning::OpeningScan;
+use scanning::PairScan;
 use seasons::Outcome;
 
 // 0, 1 and 2 as they are, and 3 for any other number.
@@ -19,16 +22,31 @@ fn method_number(method: i32) -> u16
     comparisons::magnitude(method) as u16
 }
 
+// Whether the first record of a text of this form is an opening: a text is refused for its length at place 0, and for its first record at 1.
+fn has_opening(form: Form) -> bool
+    ensures { λ r. ⌜ r ≡ hasOpening form ⌝ }
+{
+    match form {
+        Form::Read => true,
+        Form::Refused { number: _, place } => 1 < place,
+    }
+}
+
 // The method that the first record of a text carries, or 3.
-fn method_written(text: &[u8]) -> u16
+fn method_written(text: &[u8], form: Form) -> u16
+    requires { ⌜ form ≡ entriesOf (now text) .form ⌝ }
     ensures { λ r. ⌜ r ≡ methodWritten (now (text .entry)) ⌝ }
 {
-    if forms::LONGEST_TEXT < text.len() {
+    if !has_opening(form) {
         return seasons::OTHER;
     }
-    match records::read_opening(text) {
-        OpeningScan::Opened { opening, length: _ } => method_number(opening.method),
-        OpeningScan::Malformed => seasons::OTHER,
+    match fields::scan_pair(text, 0, false) {
+        PairScan::Are {
+            first,
+            second: _,
+            next: _,
+        } => method_number(first),
+        PairScan::Malformed => seasons::OTHER,
     }
 }
 
@@ -52,7 +70,8 @@ pub fn sheet_outcome(text: &[u8]) -> Outcome
     ensures { λ _. ⌜ EverySheet ⌝ }
 {
     let brief = sheet::brief_of(text);
-    let method = method_written(text);
+    let form = brief.form;
+    let method = method_written(text, form);
     let quoted = most_quoted(brief.opening);
     let report = brief.report;
     match report {

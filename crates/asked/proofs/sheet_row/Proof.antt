@@ -13,7 +13,7 @@ row-of-requires : tie.Need-row-of-requires
 row-of-requires c κs = search needs
 
 returns : tie.Need-returns
-returns c = c .row-of .ensures ∙ ap rowOf (c .before .brief-of .ensures .0)
+returns c = c .row-of .ensures ∙ ap rowOf (c .before .brief-of .ensures .2)
 
 pub sheet-row-spec : {M : Type 1} → statement M
 sheet-row-spec = tie.close (tie.spec brief-of-requires row-of-requires returns)
