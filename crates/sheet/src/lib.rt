@@ -30,9 +30,9 @@ pub fn brief_of(text: &[u8]) -> Brief
         × (r .report ≡ sheetOf (now (text .entry)) .report) ⌝ }
 {
     let e = records::read_records(text);
+    let outcome = settled::judge(e);
     let form = e.form;
     let opening = e.opening;
-    let outcome = settled::judge(e);
     let report = outcome.report;
     Brief {
         form,

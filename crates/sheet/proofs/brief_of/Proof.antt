@@ -14,12 +14,12 @@ read-records-requires : tie.Need-read-records-requires
 read-records-requires c κs = search needs
 
 judge-requires : tie.Need-judge-requires
-judge-requires c κs = subst (λ (e : Entries). e .count ≤ slots) (sym (c .before .read-records .ensures)) (entries-few _)
+judge-requires c κs = subst (λ (e : Entries). e .count ≤ slots) (sym (c .read-records .ensures)) (entries-few _)
 
 returns : tie.Need-returns
 returns c =
     let r = c .before .before .read-records in
-    let judged = c .judge .ensures ∙ sheet-judged _ (r .result) (r .ensures) in
+    let judged = c .before .judge .ensures ∙ sheet-judged _ (r .result) (r .ensures) in
     (ap (λ (e : Entries). e .form) (r .ensures), ap (λ (e : Entries). e .opening) (r .ensures), ap (λ (e : Entered). e .report) judged)
 
 pub brief-of-spec : {M : Type 1} → statement M
