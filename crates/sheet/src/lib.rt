@@ -29,10 +29,10 @@ pub fn brief_of(text: &[u8]) -> Brief
     ensures { λ r. ⌜ (r .form ≡ entriesOf (now (text .entry)) .form) × (r .opening ≡ entriesOf (now (text .entry)) .opening)
         × (r .report ≡ sheetOf (now (text .entry)) .report) ⌝ }
 {
-    let e = records::read_records(text);
-    let outcome = settled::judge(e);
-    let form = e.form;
-    let opening = e.opening;
+    let read = records::read_records(text);
+    let outcome = settled::judge(read);
+    let form = read.form;
+    let opening = read.opening;
     let report = outcome.report;
     Brief {
         form,
