@@ -258,7 +258,8 @@ struct busdekker_written {
  *
  *   kind     BUSDEKKER_SHEET_STOPPED, BUSDEKKER_SHEET_UNFINISHED or BUSDEKKER_SHEET_REFUSED
  *   method   the method as the first record has it: 0 is 0, though R is meant; BUSDEKKER_OTHER where that is not 0, 1 or 2, where the first record's
- *            form is wrong, and where the text is longer than 4,096 bytes, of which no record is read. It is told of a refused sheet too
+ *            form is wrong or it is absent, and where the text is longer than 4,096 bytes, of which no record is read. It is told of a refused sheet
+ *            too
  *   answers  the answers taken, as busdekker_sheet tells; 0 of a refused sheet
  *   quoted   the most answers that busdekker_quote tells for the opening; 0 of a refused sheet. `answers` is never more
  */
@@ -352,8 +353,8 @@ struct busdekker_outcome busdekker_sheet_outcome(const uint8_t *text, size_t len
  * The season report on a run of outcomes. `numbers` points to `length` numbers, four for each outcome in the order of struct busdekker_outcome: kind,
  * method, answers, quoted. Every number may be given. They are read and not written, and the pointer is not null even where `length` is 0. An
  * outcome of kind 0 has stopped, of kind 1 is unfinished, and of any other kind was refused; a refused one adds to the count of those refused and to
- * nothing else. The order of the outcomes does not matter. No sum wraps. The tallies of two runs one after the other are those of each added up, and
- * the larger of the two largest.
+ * nothing else. The order of the outcomes does not matter. No sum wraps. The tallies of two runs one after the other, of up to 10,000 outcomes in all,
+ * are those of each added up, and the larger of the two largest; so a host adds up the reports on parts of a longer season.
  * A refusal (19, place 0) says that `length` is above 40,000 or no multiple of 4; no number is then read. No outcome at all is a season of 0.
  */
 struct busdekker_season_report busdekker_season(const uint16_t *numbers, size_t length);
