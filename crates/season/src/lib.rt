@@ -6,7 +6,7 @@ ghost use Prim.Native.Nat.{_+_, _*_, _≤_, min, max};
 ghost use lib.ListN.{length};
 ghost use Rattle.seasons.specs.Season.{other, outcomesOf, tallyOf, talliesOf, mostOutcomes, misshapen, noTally, seasonOf};
 ghost use Rattle.seasons.specs.Claims.{added, EverySeason};
-ghost use Rattle.seasons.specs.RunLaws.{outcomeAt, Small};
+ghost use Rattle.seasons.specs.Inner.{outcomeAt, Small};
 use seasons::Counted;
 use seasons::Outcome;
 use seasons::Season;

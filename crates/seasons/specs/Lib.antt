@@ -4,6 +4,7 @@ pub mod Season
 pub mod Sheets
 pub mod Claims
 mod Examples
+pub mod Inner
 pub mod ListLaws
 pub mod SeasonLaws
 pub mod RunLaws

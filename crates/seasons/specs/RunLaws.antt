@@ -17,6 +17,7 @@ use Rattle.seasons.specs.declared.Counted.{Counted}
 use Rattle.seasons.specs.Season.{outcomesOf, bookedAs, filter, sum, maximum, tallyOf, talliesOf}
 use Rattle.seasons.specs.Season.{mostOutcomes, misshapen, noTally, refusedSeason, seasonOn, seasonOf}
 use Rattle.seasons.specs.Claims.{written, added}
+use Rattle.seasons.specs.Inner.{outcomeAt, largestNumber, Small}
 use Rattle.seasons.specs.SeasonLaws.{tallies-more}
 
 -- ---- the numbers of a run and its outcomes
@@ -56,10 +57,6 @@ outcomes-append (a ∷ b ∷ c ∷ d ∷ ns) ms e =
     ap (λ (l : List Outcome). record { kind = a; method = b; answers = c; quoted = d } ∷ l) (outcomes-append ns ms (omega arith))
 
 -- ---- the run read so far
-
-abbrev pub outcomeAt : List ℕ → ℕ → Outcome
-outcomeAt ns i =
-    record { kind = getD ns (4 * i) 0; method = getD ns (4 * i + 1) 0; answers = getD ns (4 * i + 2) 0; quoted = getD ns (4 * i + 3) 0 }
 
 -- the first i outcomes
 abbrev pub readTo : List ℕ → ℕ → List Outcome
@@ -165,19 +162,6 @@ module _ (t : Tally) (o : Outcome) where
   enter-unfinished e = rw (one-unfinished o e) (simp add-zero)
 
 -- ---- the tallies stay small
-
--- a number of 16 bits
-abbrev pub largestNumber : ℕ
-largestNumber = 65535
-
--- a tally of at most n outcomes
-pub record Small (t : Tally) (n : ℕ) : Type 0 where
-  pub stopped : t .stopped ≤ n
-  pub unfinished : t .unfinished ≤ n
-  pub refused : t .refused ≤ n
-  pub answers : t .answers ≤ largestNumber * n
-  pub quoted : t .quoted ≤ largestNumber * n
-  pub largest : t .largest ≤ largestNumber
 
 small-none : (n : ℕ) → Small noTally n
 small-none n =

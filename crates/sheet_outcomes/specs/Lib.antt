@@ -1,2 +1,2 @@
--- Laws for the proofs of the functions; nothing here is to be believed.
+pub mod Written
 pub mod WrittenLaws

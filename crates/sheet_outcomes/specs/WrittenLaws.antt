@@ -25,6 +25,7 @@ use Rattle.scanning.specs.Scan.{firstRecord, fieldAt, beforeEnd, pairAt, opened
 use Rattle.scanning.specs.First.{records-step}
 use Rattle.scanning.specs.Rest.{opening-read, opening-malformed}
 use Rattle.seasons.specs.Season.{other}
+use Rattle.sheet_outcomes.specs.Written.{hasOpening}
 use Rattle.seasons.specs.Sheets.{methodNumber, methodIn, methodOfFirst, methodWritten}
 
 -- ---- the form of a text tells whether its first record is an opening
@@ -37,11 +38,6 @@ isOpened OpeningRecord.Malformed = false
 pub record First (m : ℕ) (r : OpeningRecord) : Type 0 where
   pub is : m ≡ methodIn r
   pub found : isOpened r ≡ true
-
--- a text that is refused at place 0 or 1 has none
-abbrev pub hasOpening : Form → Bool
-hasOpening Form.Read = true
-hasOpening (Form.Refused n k) = ltb 1 k
 
 -- what is known of m and the first record, by the form
 pub record By (m : ℕ) (r : OpeningRecord) (f : Form) : Type 0 where

@@ -8,7 +8,8 @@ use mathlib.Core.List.{List}
 use lib.ListN.{length, getD}
 use lib.Seq.{take-all}
 use Rattle.seasons.specs.Season.{outcomesOf, talliesOf, mostOutcomes}
-use Rattle.seasons.specs.RunLaws.{largestNumber, Tallied, tallied-none, tallied-more, small-at, small-within, shaped}
+use Rattle.seasons.specs.Inner.{largestNumber}
+use Rattle.seasons.specs.RunLaws.{Tallied, tallied-none, tallied-more, small-at, small-within, shaped}
 use Rattle.season.proofs.tallies_of.Statement.{statement}
 use Rattle.season.proofs.tallies_of.Tie as tie
 
