@@ -190,26 +190,27 @@ small-added p q =
     }
 
 -- of one outcome whose numbers have 16 bits
-small-one : (o : Outcome) → o .answers ≤ largestNumber → o .quoted ≤ largestNumber → Small (tallyOf (o ∷ [])) 1
-small-one o h g = go (o .kind) refl
-  where
-    go : (k : ℕ) → o .kind ≡ k → Small (tallyOf (o ∷ [])) 1
-    go zero e =
-        rw (one-stopped o e)
-        (record { stopped = omega arith; unfinished = omega arith; refused = omega arith; answers = omega arith; quoted = omega arith; largest = h })
-    go (suc zero) e =
-        rw (one-unfinished o e)
-        (record { stopped = omega arith; unfinished = omega arith; refused = omega arith; answers = omega arith; quoted = omega arith; largest = h })
-    go (suc (suc k)) e =
-        rw (one-refused o (omega arith))
-        (record {
-          stopped = omega arith;
-          unfinished = omega arith;
-          refused = omega arith;
-          answers = omega arith;
-          quoted = omega arith;
-          largest = omega arith;
-        })
+module _ (o : Outcome) (h : o .answers ≤ largestNumber) (g : o .quoted ≤ largestNumber) where
+  small-searched : (stopped unfinished : ℕ) → stopped ≤ 1 → unfinished ≤ 1 → Small (searched o stopped unfinished) 1
+  small-searched stopped unfinished p q =
+      record { stopped = p; unfinished = q; refused = omega arith; answers = omega arith; quoted = omega arith; largest = h }
+
+  small-one : Small (tallyOf (o ∷ [])) 1
+  small-one = go (o .kind) refl
+    where
+      go : (k : ℕ) → o .kind ≡ k → Small (tallyOf (o ∷ [])) 1
+      go zero e = rw (one-stopped o e) (small-searched 1 0 (omega arith) (omega arith))
+      go (suc zero) e = rw (one-unfinished o e) (small-searched 0 1 (omega arith) (omega arith))
+      go (suc (suc k)) e =
+          rw (one-refused o (omega arith))
+          (record {
+            stopped = omega arith;
+            unfinished = omega arith;
+            refused = omega arith;
+            answers = omega arith;
+            quoted = omega arith;
+            largest = omega arith;
+          })
 
 -- each of some tallies
 abbrev pub EachSmall : List Tally → ℕ → Type 0
