@@ -338,7 +338,7 @@ struct busdekker_report busdekker_ask(const struct busdekker_search *search);
  * which are read and not written; it is not null even where `length` is 0. A refusal is 1 to 5, 7, 8 or 17. */
 struct busdekker_report busdekker_values(struct busdekker_opening opening, const int32_t *values, size_t length);
 
-/* The outcome of a trial sheet: the report of the search that it is, or a refusal (1 to 8, 10 to 12, 17), whose place is a record. `text` points
+/* The report on a trial sheet: that of the search that it is, or a refusal (1 to 8, 10 to 12, 17), whose place is a record. `text` points
  * to `length` bytes, any number of them, which are read and not written; it is not null even where `length` is 0. A record is numbers with
  * commas between them and CR LF at its end, which the last record may lack. A number is an optional minus and one to five digits, and may stand
  * between double quotes. The first record has the opening's five numbers, or four, and the share is then 0; every other has a point and its
@@ -354,7 +354,7 @@ struct busdekker_outcome busdekker_sheet_outcome(const uint8_t *text, size_t len
  * method, answers, quoted. Every number may be given. They are read and not written, and the pointer is not null even where `length` is 0. An
  * outcome of kind 0 has stopped, of kind 1 is unfinished, and of any other kind was refused; a refused one adds to the count of those refused and to
  * nothing else. The order of the outcomes does not matter. No sum wraps. The tallies of two runs one after the other, of up to 10,000 outcomes in all,
- * are those of each added up, and the larger of the two largest; so a host adds up the reports on parts of a longer season.
+ * are those of each added up, and the larger of the two largest; so a host adds up the reports on parts of a longer season, in 64 bits if their numbers may be of any size.
  * A refusal (19, place 0) says that `length` is above 40,000 or no multiple of 4; no number is then read. No outcome at all is a season of 0.
  */
 struct busdekker_season_report busdekker_season(const uint16_t *numbers, size_t length);

@@ -17,7 +17,7 @@
 
 #include "busdekker.h"
 
-#define IN_PARTS "give them in parts, and add the tables up; the largest is the larger"
+#define IN_PARTS "give them in parts, and add the tables up; of the largest take the larger"
 
 /* Says what is wrong with a file. A control character in its name is shown as '?', so that the line stays one. */
 static void say_fault(const char *fault, const char *name, int number) {

@@ -57,10 +57,9 @@ fn main() -> ExitCode {
     }
 }
 
-/// All parts in turn, and the number of cases.
-fn compare(rng: &mut Rng) -> Result<u64, String> {
-    let mut cases = 0;
-    let parts: [(&str, Part); 22] = [
+/// The parts, in their order.
+fn parts() -> [(&'static str, Part); 22] {
+    [
         ("lists of values", lists),
         ("runs of the trial book, from a fresh search", runs),
         ("calls in a row on searches that hold anything", held),
@@ -89,8 +88,13 @@ fn compare(rng: &mut Rng) -> Result<u64, String> {
             "outcomes of sheets, and seasons",
             season_sheets::sheet_outcomes,
         ),
-    ];
-    for (name, part) in parts {
+    ]
+}
+
+/// All parts in turn, and the number of cases.
+fn compare(rng: &mut Rng) -> Result<u64, String> {
+    let mut cases = 0;
+    for (name, part) in parts() {
         let start = Instant::now();
         let mut tally = Tally::default();
         part(rng, &mut tally)?;

@@ -26,7 +26,7 @@ pub fn values_row(opening: Opening, values: &[i32]) -> Row
     rows::row_of(listed)
 }
 
-// The outcome of a trial sheet; the place of a refusal is a record.
+// The report on a trial sheet; the place of a refusal is a record.
 pub fn sheet_row(text: &[u8]) -> Row
     ensures { λ r. ⌜ r ≡ rowOf (sheetOf (now (text .entry)) .report) ⌝ }
 {

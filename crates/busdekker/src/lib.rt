@@ -100,7 +100,7 @@ pub extern "C" fn busdekker_values(opening: Opening, values: &[i32]) -> Row
     asked::values_row(opening, values)
 }
 
-// The outcome of a trial sheet; the place of a refusal is a record.
+// The report on a trial sheet; the place of a refusal is a record.
 #[no_mangle]
 pub extern "C" fn busdekker_sheet(text: &[u8]) -> Row
     ensures { λ r. ⌜ r ≡ rowOf (sheetOf (now (text .entry)) .report) ⌝ }

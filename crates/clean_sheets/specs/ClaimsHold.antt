@@ -141,7 +141,7 @@ unfolding cleanedOf
 accepted-cleaned e h = simp h
 
 module _ (text : List ℕ) (taken : isRefusal (sheetOf text .report) ≡ false) where
-  form-read : entriesOf text .form ≡ Form.Read
+  pub form-read : entriesOf text .form ≡ Form.Read
   form-read = go (entriesOf text .form) refl
     where
       go : (f : Form) → entriesOf text .form ≡ f → f ≡ Form.Read

@@ -6,7 +6,7 @@ ghost use Prim.Native.Nat.{_+_, _*_, _≤_, min, max};
 ghost use lib.ListN.{length};
 ghost use Rattle.seasons.specs.Season.{other, outcomesOf, tallyOf, talliesOf, mostOutcomes, misshapen, noTally, seasonOf};
 ghost use Rattle.seasons.specs.Claims.{added, EverySeason};
-ghost use Rattle.seasons.specs.Inner.{outcomeAt, Small};
+ghost use Rattle.seasons.specs.Inner.{outcomeAt, Bounded};
 use seasons::Counted;
 use seasons::Outcome;
 use seasons::Season;
@@ -44,7 +44,7 @@ fn no_tally() -> Tally
 
 // A tally with one outcome more. A refused one adds to its count only.
 fn with_outcome(tally: Tally, o: Outcome) -> Tally
-    requires { ⌜ Small tally mostOutcomes ⌝ }
+    requires { ⌜ Bounded tally mostOutcomes ⌝ }
     ensures { λ r. ⌜ r ≡ added tally (tallyOf (o ∷ [])) ⌝ }
 {
     let kind = o.kind;

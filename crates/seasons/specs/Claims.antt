@@ -53,6 +53,10 @@ oneMoreRefused t = added t (record { stopped = 0; unfinished = 0; refused = 1; a
 abbrev pub countedIn : Tally → ℕ
 countedIn t = t .stopped + t .unfinished + t .refused
 
+-- two runs that are no more than 10,000 outcomes together
+abbrev pub Together : List ℕ → List ℕ → Type 0
+Together ns ms = length ns + length ms ≤ 4 * mostOutcomes
+
 -- ---- of every season
 
 pub record EverySeason : Type 0 where
@@ -66,7 +70,7 @@ pub record EverySeason : Type 0 where
       → talliesOf (os ++ (o ∷ ps))
       ≡ set (talliesOf (os ++ ps)) (bookedAs o) (oneMoreRefused (getD (talliesOf (os ++ ps)) (bookedAs o) noTally))
   -- two runs one after the other add up, within the limit
-  pub adds-up : (ns ms : List ℕ) → misshapen (length ns) ≡ false → misshapen (length ms) ≡ false → length ns + length ms ≤ 4 * mostOutcomes
+  pub adds-up : (ns ms : List ℕ) → misshapen (length ns) ≡ false → misshapen (length ms) ≡ false → Together ns ms
       → seasonOf (ns ++ ms)
       ≡ record {
         counted = Counted.Outcomes (length ns / 4 + length ms / 4);

@@ -1,6 +1,6 @@
 -- The claim on every season holds.
 -- Assumes nothing.
-use Prim.Native.Nat.{ℕ, zero, suc, _+_, _*_, _/_, _≤_, _<_}
+use Prim.Native.Nat.{ℕ, zero, suc, _+_, _/_, _≤_, _<_}
 use mathlib.Core.Path.{_≡_, refl, sym, ap, ap₂, _∙_}
 use mathlib.Core.Bool.{Bool, true, false, cond, not, _||_}
 use mathlib.Core.List.{List, [], _∷_, _++_, map, zipWith}
@@ -14,8 +14,8 @@ use Rattle.seasons.specs.declared.Tally.{Tally}
 use Rattle.seasons.specs.declared.Counted.{Counted}
 use Rattle.seasons.specs.declared.Season.{Season}
 use Rattle.seasons.specs.Season.{outcomesOf, hasStopped, isUnfinished, wasRefused, other, bookedAs, filter, sum, tallyOf, bookedUnder, talliesOf}
-use Rattle.seasons.specs.Season.{mostOutcomes, misshapen, noTally, refusedSeason, seasonOn, seasonOf}
-use Rattle.seasons.specs.Claims.{written, Reordered, added, oneMoreRefused, countedIn, EverySeason}
+use Rattle.seasons.specs.Season.{misshapen, noTally, refusedSeason, seasonOn, seasonOf}
+use Rattle.seasons.specs.Claims.{written, Reordered, added, oneMoreRefused, countedIn, Together, EverySeason}
 use Rattle.seasons.specs.ListLaws.{taken-out, length-reordered}
 use Rattle.seasons.specs.SeasonLaws.{tally-append, tallies-append, tallies-reordered, tallies-more}
 use Rattle.seasons.specs.RunLaws.{run-whole, run-read, written-length, outcomes-length, outcomes-append, one-refused, Shaped, shaped, misshapen-not}
@@ -58,7 +58,7 @@ refused-only os ps o e =
 
 -- ---- two runs one after the other
 
-adds-up : (ns ms : List ℕ) → misshapen (length ns) ≡ false → misshapen (length ms) ≡ false → length ns + length ms ≤ 4 * mostOutcomes
+adds-up : (ns ms : List ℕ) → misshapen (length ns) ≡ false → misshapen (length ms) ≡ false → Together ns ms
     → seasonOf (ns ++ ms)
     ≡ record {
       counted = Counted.Outcomes (length ns / 4 + length ms / 4);

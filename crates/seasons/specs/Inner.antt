@@ -16,7 +16,7 @@ abbrev pub largestNumber : ℕ
 largestNumber = 65535
 
 -- a tally of at most n outcomes
-pub record Small (t : Tally) (n : ℕ) : Type 0 where
+pub record Bounded (t : Tally) (n : ℕ) : Type 0 where
   pub stopped : t .stopped ≤ n
   pub unfinished : t .unfinished ≤ n
   pub refused : t .refused ≤ n

@@ -17,7 +17,7 @@ use Rattle.seasons.specs.declared.Counted.{Counted}
 use Rattle.seasons.specs.Season.{outcomesOf, bookedAs, filter, sum, maximum, tallyOf, talliesOf}
 use Rattle.seasons.specs.Season.{mostOutcomes, misshapen, noTally, refusedSeason, seasonOn, seasonOf}
 use Rattle.seasons.specs.Claims.{written, added}
-use Rattle.seasons.specs.Inner.{outcomeAt, largestNumber, Small}
+use Rattle.seasons.specs.Inner.{outcomeAt, largestNumber, Bounded}
 use Rattle.seasons.specs.SeasonLaws.{tallies-more}
 
 -- ---- the numbers of a run and its outcomes
@@ -104,8 +104,8 @@ module _ (o : Outcome) where
   one-refused h = simp (ne-eqb (o .kind) 0 (λ e. omega arith), ne-eqb (o .kind) 1 (λ e. omega arith))
 
   -- of one that is not refused
-  abbrev searched : ℕ → ℕ → Tally
-  searched stopped unfinished =
+  abbrev oneSearched : ℕ → ℕ → Tally
+  oneSearched stopped unfinished =
       record {
         stopped = stopped;
         unfinished = unfinished;
@@ -115,11 +115,11 @@ module _ (o : Outcome) where
         largest = o .answers;
       }
 
-  pub one-stopped : o .kind ≡ 0 → tallyOf (o ∷ []) ≡ searched 1 0
+  pub one-stopped : o .kind ≡ 0 → tallyOf (o ∷ []) ≡ oneSearched 1 0
   unfolding tallyOf filter sum maximum
   one-stopped e = simp (eq-eqb (o .kind) 0 e, ne-eqb (o .kind) 1 (λ f. omega arith), add-zero, max-zero)
 
-  pub one-unfinished : o .kind ≡ 1 → tallyOf (o ∷ []) ≡ searched 0 1
+  pub one-unfinished : o .kind ≡ 1 → tallyOf (o ∷ []) ≡ oneSearched 0 1
   unfolding tallyOf filter sum maximum
   one-unfinished e = simp (eq-eqb (o .kind) 1 e, ne-eqb (o .kind) 0 (λ f. omega arith), add-zero, max-zero)
 
@@ -163,11 +163,11 @@ module _ (t : Tally) (o : Outcome) where
 
 -- ---- the tallies stay small
 
-small-none : (n : ℕ) → Small noTally n
+small-none : (n : ℕ) → Bounded noTally n
 small-none n =
     record { stopped = omega arith; unfinished = omega arith; refused = omega arith; answers = omega arith; quoted = omega arith; largest = omega arith }
 
-pub small-within : {t : Tally} {n m : ℕ} → n ≤ m → Small t n → Small t m
+pub small-within : {t : Tally} {n m : ℕ} → n ≤ m → Bounded t n → Bounded t m
 small-within h s =
     record {
       stopped = omega (arith, s .stopped);
@@ -178,7 +178,7 @@ small-within h s =
       largest = s .largest;
     }
 
-small-added : {s t : Tally} {n : ℕ} → Small s n → Small t 1 → Small (added s t) (n + 1)
+small-added : {s t : Tally} {n : ℕ} → Bounded s n → Bounded t 1 → Bounded (added s t) (n + 1)
 small-added p q =
     record {
       stopped = omega (arith, p .stopped, q .stopped);
@@ -191,16 +191,16 @@ small-added p q =
 
 -- of one outcome whose numbers have 16 bits
 module _ (o : Outcome) (h : o .answers ≤ largestNumber) (g : o .quoted ≤ largestNumber) where
-  small-searched : (stopped unfinished : ℕ) → stopped ≤ 1 → unfinished ≤ 1 → Small (searched o stopped unfinished) 1
-  small-searched stopped unfinished p q =
+  small-oneSearched : (stopped unfinished : ℕ) → stopped ≤ 1 → unfinished ≤ 1 → Bounded (oneSearched o stopped unfinished) 1
+  small-oneSearched stopped unfinished p q =
       record { stopped = p; unfinished = q; refused = omega arith; answers = omega arith; quoted = omega arith; largest = h }
 
-  small-one : Small (tallyOf (o ∷ [])) 1
+  small-one : Bounded (tallyOf (o ∷ [])) 1
   small-one = go (o .kind) refl
     where
-      go : (k : ℕ) → o .kind ≡ k → Small (tallyOf (o ∷ [])) 1
-      go zero e = rw (one-stopped o e) (small-searched 1 0 (omega arith) (omega arith))
-      go (suc zero) e = rw (one-unfinished o e) (small-searched 0 1 (omega arith) (omega arith))
+      go : (k : ℕ) → o .kind ≡ k → Bounded (tallyOf (o ∷ [])) 1
+      go zero e = rw (one-stopped o e) (small-oneSearched 1 0 (omega arith) (omega arith))
+      go (suc zero) e = rw (one-unfinished o e) (small-oneSearched 0 1 (omega arith) (omega arith))
       go (suc (suc k)) e =
           rw (one-refused o (omega arith))
           (record {
@@ -213,20 +213,20 @@ module _ (o : Outcome) (h : o .answers ≤ largestNumber) (g : o .quoted ≤ lar
           })
 
 -- each of some tallies
-abbrev pub EachSmall : List Tally → ℕ → Type 0
-EachSmall [] n = Unit {0}
-EachSmall (t ∷ ts) n = Small t n × EachSmall ts n
+abbrev pub EachBounded : List Tally → ℕ → Type 0
+EachBounded [] n = Unit {0}
+EachBounded (t ∷ ts) n = Bounded t n × EachBounded ts n
 
-pub small-at : (ts : List Tally) (n k : ℕ) → EachSmall ts n → Small (getD ts k noTally) n
+pub small-at : (ts : List Tally) (n k : ℕ) → EachBounded ts n → Bounded (getD ts k noTally) n
 small-at [] n k s = small-none n
 small-at (t ∷ ts) n zero s = s .0
 small-at (t ∷ ts) n (suc k) s = small-at ts n k (s .1)
 
-each-within : (ts : List Tally) {n m : ℕ} → n ≤ m → EachSmall ts n → EachSmall ts m
+each-within : (ts : List Tally) {n m : ℕ} → n ≤ m → EachBounded ts n → EachBounded ts m
 each-within [] h s = tt
 each-within (t ∷ ts) h s = (small-within h (s .0), each-within ts h (s .1))
 
-each-set : (ts : List Tally) (n k : ℕ) (t : Tally) → EachSmall ts n → Small t n → EachSmall (set ts k t) n
+each-set : (ts : List Tally) (n k : ℕ) (t : Tally) → EachBounded ts n → Bounded t n → EachBounded (set ts k t) n
 each-set [] n k t s h = tt
 each-set (u ∷ ts) n zero t s h = (h, s .1)
 each-set (u ∷ ts) n (suc k) t s h = (s .0, each-set ts n k t (s .1) h)
@@ -235,7 +235,7 @@ each-set (u ∷ ts) n (suc k) t s h = (s .0, each-set ts n k t (s .1) h)
 
 pub record Tallied (ns : List ℕ) (i : ℕ) (ts : List Tally) : Type 0 where
   pub is : ts ≡ talliesOf (readTo ns i)
-  pub small : EachSmall ts i
+  pub small : EachBounded ts i
 
 pub tallied-none : (ns : List ℕ) → Tallied ns 0 (replicate 4 noTally)
 unfolding talliesOf tallyOf outcomesOf filter sum maximum

@@ -31,7 +31,8 @@ use Rattle.forms.specs.Entries.{tooLong, tooMany, malformed, longestText, whole
 use Rattle.forms.specs.Entries.{opened as openedAs, entered, answersFrom, recordsRead, entriesOf}
 use Rattle.outcomes.specs.Sheet.{leadsTo, refusedAt, settledAs, outcomeOf, judged, sheetOf}
 use Rattle.clean_sheets.specs.Clean.{rewrittenOf}
-use Rattle.clean_sheets.specs.ClaimsHold.{rewritten}
+use Rattle.journal.specs.SpellingLaws.{reading}
+use Rattle.clean_sheets.specs.ClaimsHold.{form-read, passed, opening-held, rewritten}
 use Rattle.seasons.specs.declared.Outcome.{Outcome}
 use Rattle.seasons.specs.Season.{other, notRefused, wasRefused, bookedAs, filter, sum, maximum, tallyOf, bookedUnder}
 use Rattle.seasons.specs.Sheets.{methodNumber, methodIn, methodOfFirst, methodWritten, mostQuoted, outcomeBy, sheetOutcome}
@@ -137,42 +138,22 @@ sheet-keeps text = form (entriesOf text .form)
 
 -- ---- a sheet that is accepted
 
--- it is read, and the opening of its search is the one that is read
-record Read (text : List ℕ) : Type 0 where
+-- it is read, and the opening of its search is the one that is read, which is accepted
+record Taken (text : List ℕ) : Type 0 where
   form : entriesOf text .form ≡ Form.Read
   opening : sheetOf text .search .opening ≡ entriesOf text .opening
+  accepted : Accepted (sheetOf text .search .opening)
 
-sheet-read : (text : List ℕ) → isRefusal (sheetOf text .report) ≡ false → Read text
-unfolding sheetOf outcomeOf
-sheet-read text taken = by (entriesOf text .form) refl taken
-  where
-    e : Entries
-    e = entriesOf text
-
-    settled : (p : Progress) → isRefusal (settledAs e p .report) ≡ false → settledAs e p .search .opening ≡ e .opening
-    settled Progress.Begun h = refl
-    settled (Progress.First v) h = refl
-    settled (Progress.Bracketed k) h = refl
-    settled (Progress.Refused n i) h = never h
-
-    go : (b : Bool) → let x = cond {A = Entered} b (settledAs e (leadsTo e)) (refusedAt (openingRefusal (e .opening)) openingPlace) in
-        isRefusal (x .report) ≡ false → x .search .opening ≡ e .opening
-    go true h = settled (leadsTo e) h
-    go false h = never h
-
-    by : (f : Form) → e .form ≡ f → isRefusal (judged e f .report) ≡ false → Read text
-    by Form.Read h t =
-        record { form = h; opening = ap (λ (f : Form). judged e f .search .opening) h ∙ go (eqb (openingRefusal (e .opening)) 0) t }
-    by (Form.Refused n k) h t = never t
-
-kept-accepted : (o : Opening) (r : Report) → isRefusal r ≡ false → Kept o r → Accepted o
-kept-accepted o (Report.Next point taken) h k = k .0
-kept-accepted o (Report.Stop lower upper better taken) h k = k .0
-kept-accepted o (Report.Refused n i) h k = never h
-
--- the opening of its search is accepted
-sheet-accepted : (text : List ℕ) → isRefusal (sheetOf text .report) ≡ false → Accepted (sheetOf text .search .opening)
-sheet-accepted text taken = kept-accepted (sheetOf text .search .opening) (sheetOf text .report) taken (sheet-keeps text)
+sheet-taken : (text : List ℕ) → isRefusal (sheetOf text .report) ≡ false → Taken text
+sheet-taken text taken =
+    let form = form-read text taken in
+    let read = reading text .taken form in
+    let held = opening-held text taken (read .0) (read .1) (read .2) in
+    record {
+      form = form;
+      opening = held ∙ sym (ap (λ (e : Entries). e .opening) (read .2));
+      accepted = rw held (record { accepted = passed text taken (read .0) (read .1) (read .2) .0 });
+    }
 
 -- ---- its method
 
@@ -194,10 +175,10 @@ number-few m = go (outside 0 2 m) refl
 
 written-is : (text : List ℕ) → isRefusal (sheetOf text .report) ≡ false → pos (methodWritten text) ≡ sheetOf text .search .opening .method
 written-is text taken =
-    let read = sheet-read text taken in
-    ap pos (entries-agree text (read .form))
-    ∙ ap (λ (o : Opening). pos (methodNumber (o .method))) (sym (read .opening))
-    ∙ number-whole (sheetOf text .search .opening) (sheet-accepted text taken)
+    let t = sheet-taken text taken in
+    ap pos (entries-agree text (t .form))
+    ∙ ap (λ (o : Opening). pos (methodNumber (o .method))) (sym (t .opening))
+    ∙ number-whole (sheetOf text .search .opening) (t .accepted)
 
 -- ---- its quote
 
@@ -253,9 +234,9 @@ outcome-read text = go (sheetOf text .report) refl
     go : (r : Report) → sheetOf text .report ≡ r
         → outcomeBy (methodWritten text) (entriesOf text .opening) r ≡ outcomeBy (methodWritten text) (sheetOf text .search .opening) r
     go (Report.Next point taken) e =
-        ap (λ (o : Opening). outcomeBy (methodWritten text) o (Report.Next point taken)) (sym (sheet-read text (ap isRefusal e) .opening))
+        ap (λ (o : Opening). outcomeBy (methodWritten text) o (Report.Next point taken)) (sym (sheet-taken text (ap isRefusal e) .opening))
     go (Report.Stop lower upper better taken) e =
-        ap (λ (o : Opening). outcomeBy (methodWritten text) o (Report.Stop lower upper better taken)) (sym (sheet-read text (ap isRefusal e) .opening))
+        ap (λ (o : Opening). outcomeBy (methodWritten text) o (Report.Stop lower upper better taken)) (sym (sheet-taken text (ap isRefusal e) .opening))
     go (Report.Refused n i) e = refl
 
 -- the answers of every sheet fit a search
@@ -313,7 +294,7 @@ sheet-claim text =
       few = by-few m o r;
       method = λ taken. ap pos (by-method m o r) ∙ written-is text taken;
       quoted = λ taken.
-          let q = quote-is o (sheet-accepted text taken) in
+          let q = quote-is o (sheet-taken text taken .accepted) in
           q ∙ ap (Quote.Quoted (tOf o)) (sym (by-quoted m o r taken ∙ ap mostQuoted q));
       cleaned = cleaned-same text;
     }

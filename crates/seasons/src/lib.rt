@@ -12,7 +12,7 @@ pub const UNFINISHED: u16 = 1;
 
 pub const REFUSED: u16 = 2;
 
-// Outcomes are booked under the method that they carry, 0, 1 or 2, and any other under this number; so many tallies there are.
+// Outcomes are booked under the method that they carry, 0, 1 or 2, and any other under 3; so there are four tallies.
 pub const OTHER: u16 = 3;
 
 pub const TALLIES: usize = 4;

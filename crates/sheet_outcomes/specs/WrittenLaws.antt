@@ -25,7 +25,7 @@ use Rattle.scanning.specs.Scan.{firstRecord, fieldAt, beforeEnd, pairAt, opened
 use Rattle.scanning.specs.First.{records-step}
 use Rattle.scanning.specs.Rest.{opening-read, opening-malformed}
 use Rattle.seasons.specs.Season.{other}
-use Rattle.sheet_outcomes.specs.Written.{hasOpening}
+use Rattle.sheet_outcomes.specs.HasOpening.{hasOpening}
 use Rattle.seasons.specs.Sheets.{methodNumber, methodIn, methodOfFirst, methodWritten}
 
 -- ---- the form of a text tells whether its first record is an opening

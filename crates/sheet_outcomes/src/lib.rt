@@ -4,7 +4,7 @@ ghost use Rattle.rules.specs.Search.{quoteOf};
 ghost use Rattle.forms.specs.Entries.{entriesOf};
 ghost use Rattle.seasons.specs.Sheets.{methodNumber, methodWritten, mostQuoted, sheetOutcome};
 ghost use Rattle.seasons.specs.Claims.{EverySheet};
-ghost use Rattle.sheet_outcomes.specs.Written.{hasOpening};
+ghost use Rattle.sheet_outcomes.specs.HasOpening.{hasOpening};
 use forms::Form;
 use rules::Opening;
 use rules::Quote;

@@ -1,7 +1,7 @@
 -- `sheet_outcomes::has_opening` meets its contract: each arm says the definition's case.
 -- Assumes nothing.
 use mathlib.Core.Path.{sym, ap}
-use Rattle.sheet_outcomes.specs.Written.{hasOpening}
+use Rattle.sheet_outcomes.specs.HasOpening.{hasOpening}
 use borrow.Author.Needs.{needs}
 use Rattle.sheet_outcomes.proofs.has_opening.Statement.{statement}
 use Rattle.sheet_outcomes.proofs.has_opening.Tie as tie
