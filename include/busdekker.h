@@ -11,13 +11,13 @@
  *
  * Promises, for every call and every input. The call ends. It keeps no pointer, allocates nothing, blocks on nothing and has no state of its
  * own, so calls on different searches or dispatchers may run at once, in threads or in interrupts. It reads and writes nothing but what it is
- * lent, whatever that holds. A refusal leaves what was lent as it was: numbers may be stored again, but they are the same. A
- * busdekker_dispatch_ call needs at most BUSDEKKER_DISPATCHER_STACK bytes of stack, and every other at most BUSDEKKER_STACK, with what its
- * caller puts there to pass and return structs.
+ * lent, whatever that holds. A refusal leaves what was lent as it was: behind a pointer that is not const numbers may be stored again, but they
+ * are the same. A busdekker_dispatch_ call needs at most BUSDEKKER_DISPATCHER_STACK bytes of stack, and every other at most BUSDEKKER_STACK, with
+ * what its caller puts there to pass and return structs.
  *
- * Asked of the host. Pointers are not null, point to whole objects, and are aligned as the compiler aligns them. While a call that takes a
- * search or a dispatcher by a pointer that is not const runs, nobody else reads or writes it: a search has one writer, and so has a dispatcher
- * with all its searches.
+ * Asked of the host. Pointers are not null, point to whole objects, and are aligned as the compiler aligns them. While a call runs, nobody writes
+ * what it is lent to read. While a call that takes a search or a dispatcher by a pointer that is not const runs, nobody else reads or writes it:
+ * a search has one writer, and so has a dispatcher with all its searches.
  *
  * What each function returns and leaves is proved of its code, for every input, in crates/busdekker.
  */
@@ -256,12 +256,14 @@ struct busdekker_written {
 /*
  * The outcome of a sheet in four numbers, as a season report takes them.
  *
- *   kind     BUSDEKKER_SHEET_STOPPED, BUSDEKKER_SHEET_UNFINISHED or BUSDEKKER_SHEET_REFUSED
- *   method   the method as the first record has it: 0 is 0, though R is meant; BUSDEKKER_OTHER where that is not 0, 1 or 2, where the first record's
- *            form is wrong or it is absent, and where the text is longer than 4,096 bytes, of which no record is read. It is told of a refused sheet
- *            too
+ *   kind     one of enum busdekker_outcome_kind, and not of enum busdekker_kind. Why a sheet is refused busdekker_sheet tells
+ *   method   the method of the first record, in whatever spelling: 0 is 0, though R is meant. It is told of a refused sheet too, whatever stands in
+ *            its other records. BUSDEKKER_OTHER where it is not 0, 1 or 2, where the first record's form is wrong or it is absent, and where the
+ *            text is longer than 4,096 bytes, of which none is read
  *   answers  the answers taken, as busdekker_sheet tells; 0 of a refused sheet
  *   quoted   the most answers that busdekker_quote tells for the opening; 0 of a refused sheet. `answers` is never more
+ *
+ * A sheet with method 0 from before version 8 goes through the program old_default first, as said at BUSDEKKER_VERSION, and then has method 1.
  */
 struct busdekker_outcome {
     uint16_t kind;
@@ -350,12 +352,14 @@ struct busdekker_report busdekker_sheet(const uint8_t *text, size_t length);
 struct busdekker_outcome busdekker_sheet_outcome(const uint8_t *text, size_t length);
 
 /*
- * The season report on a run of outcomes. `numbers` points to `length` numbers, four for each outcome in the order of struct busdekker_outcome: kind,
- * method, answers, quoted. Every number may be given. They are read and not written, and the pointer is not null even where `length` is 0. An
- * outcome of kind 0 has stopped, of kind 1 is unfinished, and of any other kind was refused; a refused one adds to the count of those refused and to
- * nothing else. The order of the outcomes does not matter. No sum wraps. The tallies of two runs one after the other, of up to 10,000 outcomes in all,
- * are those of each added up, and the larger of the two largest; so a host adds up the reports on parts of a longer season, in 64 bits if their numbers may be of any size.
- * A refusal (19, place 0) says that `length` is above 40,000 or no multiple of 4; no number is then read. No outcome at all is a season of 0.
+ * The season report on a run of outcomes. `numbers` points to `length` numbers, BUSDEKKER_OUTCOME_NUMBERS for each outcome in the order of struct
+ * busdekker_outcome: kind, method, answers, quoted. It is the numbers that `length` counts; how many outcomes they were the report tells. Every
+ * number may be given. They are read and not written, and the pointer is not null even where `length` is 0, which is a season without an outcome.
+ * An outcome of kind 0 has stopped, of kind 1 is unfinished, and of any other kind was refused; a refused one adds to the count of those refused
+ * and to nothing else. The order of the outcomes does not matter. No sum wraps. Of two runs one after the other, of up to 10,000 outcomes together,
+ * every number in the tallies is the sum of those of each, and `largest` the larger. So a season of more is reported on in parts, and the host adds
+ * those up, in 64 bits if the numbers may be of any size.
+ * A refusal (19, place 0) says that `length` is above 40,000 or no multiple of 4; no number is then read.
  */
 struct busdekker_season_report busdekker_season(const uint16_t *numbers, size_t length);
 
