@@ -206,9 +206,10 @@ struct busdekker_dispatcher {
  *                      target than the other's, and taken the number of answers taken. The bracket is no wider than twice the tolerance at
  *                      the better end.
  *   BUSDEKKER_REFUSED  number says why, and place where:
- *                        1 to 4, 9, 14 to 17
+ *                        1 to 4, 9, 14 to 17, but of a sheet
  *                                     place is 0
- *                        5 to 8       place is the index of the refused value, counted from 0: in a list, its index there; in a held search,
+ *                        5 to 8, but of a sheet
+ *                                     place is the index of the refused value, counted from 0: in a list, its index there; in a held search,
  *                                     its slot; of an answer that is offered to a held search, the count
  *                        a sheet      place is a record, counted from 1: 1 for the opening, k + 2 for value k, 0 for the whole text
  */
@@ -344,7 +345,7 @@ struct busdekker_report busdekker_values(struct busdekker_opening opening, const
  * to `length` bytes, any number of them, which are read and not written; it is not null even where `length` is 0. A record is numbers with
  * commas between them and CR LF at its end, which the last record may lack. A number is an optional minus and one to five digits, and may stand
  * between double quotes. The first record has the opening's five numbers, or four, and the share is then 0; every other has a point and its
- * value. */
+ * value. A single CR or LF ends nothing. A record without a number, as after one CR LF too many, is malformed (12), and of an empty text the first. */
 struct busdekker_report busdekker_sheet(const uint8_t *text, size_t length);
 
 /* The outcome of a trial sheet in four numbers, whatever the text is: there is no refusal of this call. `text` points to `length` bytes, any number
