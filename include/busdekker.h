@@ -206,9 +206,9 @@ struct busdekker_dispatcher {
  *                      target than the other's, and taken the number of answers taken. The bracket is no wider than twice the tolerance at
  *                      the better end.
  *   BUSDEKKER_REFUSED  number says why, and place where:
- *                        1 to 4, 9, 14 to 17, but of a sheet
+ *                        1 to 4, 9, 14 to 17, not of a sheet
  *                                     place is 0
- *                        5 to 8, but of a sheet
+ *                        5 to 8, not of a sheet
  *                                     place is the index of the refused value, counted from 0: in a list, its index there; in a held search,
  *                                     its slot; of an answer that is offered to a held search, the count
  *                        a sheet      place is a record, counted from 1: 1 for the opening, k + 2 for value k, 0 for the whole text
