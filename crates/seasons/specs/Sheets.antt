@@ -25,7 +25,7 @@ use Rattle.seasons.specs.Season.{other, stoppedOutcome, unfinishedOutcom
 unfoldable pub methodNumber : ℤ → ℕ
 methodNumber m = cond (outside 0 2 m) other (natAbs m)
 
--- of a record that has an opening's form
+-- of a record; where its form is not an opening's, other
 abbrev pub methodIn : OpeningRecord → ℕ
 methodIn (OpeningRecord.Opened o) = methodNumber (o .method)
 methodIn OpeningRecord.Malformed = other
