@@ -1,15 +1,17 @@
 # Thin targets over the toolchain, for those who type make.
-#   make                      proves and builds the archive for C and the programs, under target/
+#   make                      proves and builds the archive for C, the programs, and the commands in C over it, season and load, under target/
 #   make target/bin/season    builds the season report alone, with the C compiler, on the archive that is there; nothing is proved
+#   make target/bin/load      the same for the trial load
 #   make test                 the gate: everything is proved from nothing and tested
-#   make install PREFIX=DIR   installs the header, the archive, its pkg-config file and the programs that `make` built; DESTDIR is put before
-# The archive and the programs are for x86-64 Linux.
+#   make install PREFIX=DIR   installs the header, the archive, its pkg-config file and the programs and commands that `make` built; DESTDIR is put before
+# The archive, the programs and the commands are for x86-64 Linux.
 PREFIX = /usr/local
 DESTDIR =
 CFLAGS = -O2
 PROGRAMS = zeroin clean old_default
-SEASON = target/bin/season
-BUILT = $(PROGRAMS:%=target/bin/%) $(SEASON)
+COMMANDS = season load
+BUILT_COMMANDS = $(COMMANDS:%=target/bin/%)
+BUILT = $(PROGRAMS:%=target/bin/%) $(BUILT_COMMANDS)
 VERSION = $(shell sed -n 's/^.define BUSDEKKER_VERSION //p' include/busdekker.h)
 ARCHIVE = target/staticlib/libbusdekker.a
 
@@ -18,11 +20,11 @@ ARCHIVE = target/staticlib/libbusdekker.a
 all:
 	rt staticlib busdekker
 	rt check $(PROGRAMS)
-	$(MAKE) $(SEASON)
+	$(MAKE) $(BUILT_COMMANDS)
 
-$(SEASON): tools/season.c include/busdekker.h $(ARCHIVE)
+$(BUILT_COMMANDS): target/bin/%: tools/%.c tools/command.h include/busdekker.h $(ARCHIVE)
 	mkdir -p target/bin
-	$(CC) -std=c11 $(CFLAGS) -Iinclude tools/season.c $(ARCHIVE) $(LDFLAGS) -o $@
+	$(CC) -std=c11 $(CFLAGS) -Iinclude $< $(ARCHIVE) $(LDFLAGS) -o $@
 
 # Only where it is not there.
 $(ARCHIVE):

@@ -6,6 +6,8 @@
 
 static const char *refusal_in_words(uint32_t number) {
     switch (number) {
+    case BUSDEKKER_SEED_OUT_OF_RANGE:
+        return "the seed is not from 1 to 2,147,483,646";
     case BUSDEKKER_MISSHAPEN_RUN:
         return "the run has more than 10,000 outcomes, or its numbers are not in whole fours";
     case BUSDEKKER_REPLY_TOO_SHORT:

@@ -54,8 +54,8 @@ extern "C" {
  * before any other call on it or on its dispatcher. Such a sheet, read as it is, may be refused, or be sent to another point: it goes through the
  * program old_default, which reads it with 0 as M and writes its clean sheet with method 1. Since version 9 there is busdekker_panel; no struct and
  * no other call has changed. Since version 10 there are busdekker_sheet_outcome and busdekker_season, with their structs; no other struct and no
- * other call has changed. */
-#define BUSDEKKER_VERSION 10
+ * other call has changed. Since version 11 there are busdekker_load and busdekker_draw; no struct and no other call has changed. */
+#define BUSDEKKER_VERSION 11
 
 /* The answers that a search keeps. */
 #define BUSDEKKER_SLOTS 77
@@ -79,6 +79,9 @@ extern "C" {
 /* The tallies of a season: one for each of the methods 0, 1 and 2, in this order, and at BUSDEKKER_OTHER one for any other method. */
 #define BUSDEKKER_TALLIES 4
 #define BUSDEKKER_OTHER 3
+
+/* The largest seed of a trial load; the least is 1. */
+#define BUSDEKKER_LARGEST_SEED 2147483646
 
 /* The dryers of a dispatcher, which are 0 to 5. */
 #define BUSDEKKER_DRYERS 6
@@ -121,6 +124,8 @@ enum busdekker_outcome_kind {
 
 /* The numbers of refusals, in the order in which they are checked. The first that applies is told. */
 enum busdekker_refusal {
+    /* the seed of a trial load, before anything is drawn */
+    BUSDEKKER_SEED_OUT_OF_RANGE = 20, /* seed not 1 to 2,147,483,646 */
     /* the run of outcomes that a season report is made of, before any of its numbers is read */
     BUSDEKKER_MISSHAPEN_RUN = 19, /* more than 10,000 outcomes, or numbers not in whole fours */
     /* the buffer that a panel's reply is to be written into, before the request and the search */
@@ -168,8 +173,8 @@ struct busdekker_answer {
 };
 
 /* A search that the host holds: its opening, the number of answers taken, and their values in the first slots. The others hold 0. Only
- * busdekker_open, busdekker_enter, busdekker_panel and busdekker_change_over should write it, but for the copy from an older version that stands
- * at BUSDEKKER_VERSION. */
+ * busdekker_open, busdekker_enter, busdekker_panel and busdekker_change_over should write it, but for a copy of a search that busdekker_entered or
+ * busdekker_load returned, and for the copy from an older version that stands at BUSDEKKER_VERSION. */
 struct busdekker_search {
     struct busdekker_opening opening;
     uint32_t count;
@@ -206,7 +211,7 @@ struct busdekker_dispatcher {
  *                      target than the other's, and taken the number of answers taken. The bracket is no wider than twice the tolerance at
  *                      the better end.
  *   BUSDEKKER_REFUSED  number says why, and place where:
- *                        1 to 4, 9, 14 to 17, not of a sheet
+ *                        1 to 4, 9, 14 to 17, 20, not of a sheet
  *                                     place is 0
  *                        5 to 8, not of a sheet
  *                                     place is the index of the refused value, counted from 0: in a list, its index there; in a held search,
@@ -333,8 +338,8 @@ struct busdekker_report busdekker_enter(struct busdekker_search *search, int32_t
 struct busdekker_answered busdekker_entered(struct busdekker_search search, int32_t point, int32_t value);
 
 /* Asks for the report of *search as it stands, which is read and not written. Slots at or past the count never alter it. A refusal (1 to 5, 7
- * to 9, 17) says that *search was not made by busdekker_open and the answers entered since, or was begun before version 8 with method 0 and is not
- * changed over. */
+ * to 9, 17) says that *search was not made by busdekker_open and the answers entered since, nor by busdekker_load, or was begun before version 8
+ * with method 0 and is not changed over. */
 struct busdekker_report busdekker_ask(const struct busdekker_search *search);
 
 /* The report on an opening and the values answered so far, in the order called for. `values` points to `length` numbers, any number of them,
@@ -425,6 +430,30 @@ struct busdekker_report busdekker_change_over(struct busdekker_search *search);
  * dispatcher's search is not for a panel: what it enters there would be served to no dryer, out of turn and not counted.
  */
 struct busdekker_written busdekker_panel(struct busdekker_search *search, const uint8_t *request, size_t length, uint8_t *reply, size_t size);
+
+/*
+ * The trial load of a seed, to try a panel or a host with made-up leaf: a search that has stopped, the same wherever and whenever it is made. The
+ * draws of the generator of Park and Miller (busdekker_draw) give its numbers, in this order; the seed is itself no draw:
+ *
+ *   the first end    the draw modulo 60,001
+ *   the second end   the next draw modulo 60,001; where that is the first end, the first end plus 1, modulo 60,001
+ *   the tolerance    1 plus the draw modulo 5,000
+ *   the method       1 plus the draw modulo 2
+ *   each value       the draw modulo 20,001, less 10,000. Where the second is above 0 as the first is, or below 0 as the first is, its sign is
+ *                    changed
+ *
+ * The share is 0. Values are drawn until the search stops, and no more: never more than busdekker_quote tells for its opening. Slots at or past
+ * the count hold 0. The report is the one that busdekker_ask tells of the search, BUSDEKKER_STOP; busdekker_write gives its clean sheet, which
+ * busdekker_sheet reads as this search.
+ * A refusal (20, place 0) says that the seed is not 1 to BUSDEKKER_LARGEST_SEED; beside it stands a search of which every number is 0, and which
+ * busdekker_ask refuses (3). A host whose seed has more than 32 bits looks for itself that it is in range before it passes it.
+ */
+struct busdekker_answered busdekker_load(uint32_t seed);
+
+/* The draw after `last`, or the first one after a seed, by the generator of Park and Miller: 16,807 times `last`, modulo 2,147,483,647. Every number
+ * may be given. After one from 1 to BUSDEKKER_LARGEST_SEED the draw is in that range too; after a multiple of 2,147,483,647, as 0 is, it is 0. From
+ * seed 1 the 10,000th draw is 1,043,618,065. */
+uint32_t busdekker_draw(uint32_t last);
 
 /* A fresh dispatcher: no dryer has a search, `last` is BUSDEKKER_NOBODY, and all six counts are 0. */
 struct busdekker_dispatcher busdekker_dispatch_fresh(void);

@@ -4,6 +4,7 @@
 
 #include <cstring>
 #include <initializer_list>
+#include <random>
 #include <string>
 #include <vector>
 
@@ -282,6 +283,80 @@ static bool limits_of_seasons() {
     return munmap(unreadable, bytes) == 0 && same;
 }
 
+// The draws are those of the C++ library's generator of Park and Miller, whose 10,000th from seed 1 is published. Every other number may be drawn after
+// too; twice the modulus and 1 more is 1 by it.
+static bool draws() {
+    const uint32_t modulus = 2147483647;
+    bool same = busdekker_draw(0) == 0 && busdekker_draw(modulus) == 0 && busdekker_draw(modulus + 1) == 16807 && busdekker_draw(2 * modulus + 1) == 16807;
+    for (const uint32_t seed : {1, 2, 16807, 1407677000, BUSDEKKER_LARGEST_SEED - 1, BUSDEKKER_LARGEST_SEED}) {
+        std::minstd_rand0 generator(seed);
+        uint32_t draw = seed;
+        for (int k = 0; k < 10000; k++) {
+            draw = busdekker_draw(draw);
+            same = same && draw == generator();
+        }
+        same = same && (seed != 1 || draw == 1043618065);
+    }
+    return same;
+}
+
+// The load of a seed as a host makes it by the C++ library's generator, with every value entered for the point called for.
+static busdekker_answered made_by_host(uint32_t seed) {
+    std::minstd_rand0 draw(seed);
+    const auto modulo = [&draw](uint32_t divisor) { return static_cast<int32_t>(draw() % divisor); };
+    busdekker_answered load = {};
+    busdekker_opening &opening = load.search.opening;
+    opening.first = modulo(60001);
+    opening.second = modulo(60001);
+    if (opening.second == opening.first) {
+        opening.second = (opening.first + 1) % 60001;
+    }
+    opening.tolerance = 1 + modulo(5000);
+    opening.method = 1 + modulo(2);
+    load.report = busdekker_open(&load.search, opening);
+    while (load.report.kind == BUSDEKKER_NEXT) {
+        const int32_t first = load.search.slots[0], drawn = modulo(20001) - 10000;
+        const bool negated = load.search.count == 1 && ((first > 0 && drawn > 0) || (first < 0 && drawn < 0));
+        load.report = busdekker_enter(&load.search, static_cast<int32_t>(load.report.point), negated ? -drawn : drawn);
+    }
+    return load;
+}
+
+// The load of a seed has this clean sheet, which is read as the report says.
+static bool loads(uint32_t seed, const std::string &clean) {
+    const busdekker_answered load = busdekker_load(seed);
+    const busdekker_report asked = busdekker_ask(&load.search), read = sheet(clean);
+    uint8_t buffer[BUSDEKKER_LONGEST_CLEAN_SHEET];
+    const busdekker_written written = busdekker_write(&load.search, buffer, sizeof buffer);
+    bool same = std::string(buffer, buffer + written.length) == clean && load.report.kind == BUSDEKKER_STOP && load.report.taken == load.search.count;
+    return same && std::memcmp(&load.report, &asked, sizeof asked) == 0 && std::memcmp(&load.report, &read, sizeof read) == 0;
+}
+
+// A refused seed: every number but the refusal's own is 0, and the search beside it is refused by itself.
+static bool refuses_seed(uint32_t seed) {
+    const busdekker_answered load = busdekker_load(seed);
+    busdekker_answered refused = {};
+    refused.report.kind = BUSDEKKER_REFUSED;
+    refused.report.number = BUSDEKKER_SEED_OUT_OF_RANGE;
+    return std::memcmp(&load, &refused, sizeof load) == 0 && busdekker_ask(&load.search).number == BUSDEKKER_ENDS_EQUAL;
+}
+
+// Loads: by R and by M, with a second value negated, the second end moved, and a first value of 0; then many as a host makes them, within the quotation.
+static bool trial_loads() {
+    bool same = loads(4, "2,7227,22165,4352\r\n7227,4354\r\n22165,-1051\r\n17813,-28\r\n13461,9401\r\n");
+    same = same && loads(5, "1,24034,12706,4425\r\n24034,-3919\r\n12706,7465\r\n19609,2465\r\n");
+    same = same && loads(23272, "2,45986,45987,9\r\n45986,-6581\r\n45987,4146\r\n") && loads(156205, "2,5824,7996,1203\r\n5824,0\r\n7996,2267\r\n");
+    same = same && loads(BUSDEKKER_LARGEST_SEED, "2,31050,57316,3575\r\n31050,-5449\r\n57316,1484\r\n51694,3786\r\n41372,8290\r\n36211,1291\r\n");
+    for (uint32_t k = 0; k < 1000; k++) {
+        for (const uint32_t seed : {k + 1, BUSDEKKER_LARGEST_SEED - k}) {
+            const busdekker_answered load = busdekker_load(seed), by_host = made_by_host(seed);
+            same = same && std::memcmp(&load, &by_host, sizeof load) == 0 && load.report.taken <= busdekker_quote(load.search.opening).most;
+        }
+    }
+    same = same && refuses_seed(0) && refuses_seed(BUSDEKKER_LARGEST_SEED + 1u) && refuses_seed(BUSDEKKER_LARGEST_SEED + 2u);
+    return same && refuses_seed(3000000000) && refuses_seed(UINT32_MAX);
+}
+
 // The calls on a dispatcher: dryers 4 and 1 are opened, 1 has the turn first, and then 4.
 static bool dispatches(busdekker_opening opening, busdekker_opening refused) {
     const busdekker_answer answer = {0, -1};
@@ -327,6 +402,6 @@ int main() {
     same = same && written.kind == BUSDEKKER_WRITTEN && written.length == sizeof clean - 1 && std::memcmp(buffer, clean, written.length) == 0;
     same = same && busdekker_write(&search, buffer, written.length - 1).number == BUSDEKKER_BUFFER_TOO_SHORT;
     same = same && changes_over() && serves_a_panel() && dispatches(opening, refused) && limits_of_ends() && limits_of_shares() && tolerance_with_a_share();
-    same = same && outcomes_of_sheets() && counts_a_season() && limits_of_seasons();
+    same = same && outcomes_of_sheets() && counts_a_season() && limits_of_seasons() && draws() && trial_loads();
     return same && limits_of_counts(opening) && limits_of_sheets() ? 0 : 1;
 }

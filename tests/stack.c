@@ -2,8 +2,9 @@
  * The stack that the calls of include/busdekker.h need, measured. Each call is made by a function that does nothing else, on a stack that was
  * painted before; how far down the paint is gone, less what an empty function uses there, is what the call needs, with what its caller puts on
  * the stack to pass and return structs. Each call is tried at every answer of four long searches, by M and by R, without a share and with one,
- * and on refused openings; those on a dispatcher at every answer of a morning with six such searches; and the season report on a run of 10,000
- * outcomes. The program prints the largest figure for each call, and exits 1 if one is above its limit, BUSDEKKER_STACK or BUSDEKKER_DISPATCHER_STACK.
+ * and on refused openings; those on a dispatcher at every answer of a morning with six such searches; the season report on a run of 10,000
+ * outcomes; and those on a seed with a thousand seeds, those of the longest loads, and some that are refused. The program prints the largest
+ * figure for each call, and exits 1 if one is above its limit, BUSDEKKER_STACK or BUSDEKKER_DISPATCHER_STACK.
  */
 #define _XOPEN_SOURCE 700
 
@@ -33,6 +34,7 @@ static uint8_t clean[BUSDEKKER_LONGEST_CLEAN_SHEET];
 static uint16_t run[BUSDEKKER_MOST_OUTCOMES * BUSDEKKER_OUTCOME_NUMBERS];
 static struct busdekker_dispatcher dispatcher, other_dispatcher;
 static uint32_t dryer;
+static uint32_t seed;
 static uint32_t kinds;
 
 static void nothing(void) {
@@ -114,6 +116,14 @@ static void panel(void) {
     kinds += busdekker_panel(&old, all, sizeof all, clean, 0).kind;
 }
 
+static void load(void) {
+    kinds += busdekker_load(seed).report.kind;
+}
+
+static void draw(void) {
+    kinds += busdekker_draw(seed);
+}
+
 static void dispatch_fresh(void) {
     other_dispatcher = busdekker_dispatch_fresh();
 }
@@ -176,6 +186,7 @@ static struct call on_searches[] = {
     {"busdekker_panel", panel, 0},     {"busdekker_season", season, 0},     {"busdekker_sheet_outcome", sheet_outcome, 0},
     {"busdekker_enter", enter, 0},
 };
+static struct call on_seeds[] = {{"busdekker_load", load, 0}, {"busdekker_draw", draw, 0}};
 static struct call on_dispatchers[] = {
     {"busdekker_dispatch_fresh", dispatch_fresh, 0}, {"busdekker_dispatch_turn", dispatch_turn, 0},
     {"busdekker_dispatch_open", dispatch_open, 0},   {"busdekker_dispatch_ask", dispatch_ask, 0},
@@ -183,6 +194,7 @@ static struct call on_dispatchers[] = {
 };
 
 enum { ON_SEARCHES = sizeof on_searches / sizeof on_searches[0], ON_DISPATCHERS = sizeof on_dispatchers / sizeof on_dispatchers[0] };
+enum { ON_SEEDS = sizeof on_seeds / sizeof on_seeds[0] };
 
 /* Each of the calls on what is now set. */
 static void measure(struct call *calls, int count) {
@@ -253,6 +265,21 @@ static void morning_through(void) {
     measure(on_dispatchers, ON_DISPATCHERS);
 }
 
+/* The seeds from 1 on, those with the longest loads, of 23 answers by M and by R, the largest, and some that are refused. */
+static void seeds_through(void) {
+    static const uint32_t others[] = {
+        467267962,  632430209,  1195399133, 1869948444, 1051411030,             1098073067, 1280470691,
+        1343969711, 1422603867, 1655497921, 0,          BUSDEKKER_LARGEST_SEED, 2147483647, UINT32_MAX,
+    };
+    for (seed = 1; seed <= 1000; seed++) {
+        measure(on_seeds, ON_SEEDS);
+    }
+    for (size_t k = 0; k < sizeof others / sizeof others[0]; k++) {
+        seed = others[k];
+        measure(on_seeds, ON_SEEDS);
+    }
+}
+
 /* Outcomes of every kind, under every method and another, with any number of answers. */
 static void fill_run(void) {
     for (size_t k = 0; k < sizeof run / sizeof run[0]; k += BUSDEKKER_OUTCOME_NUMBERS) {
@@ -274,7 +301,9 @@ int main(void) {
     search.count = BUSDEKKER_SLOTS + 1;
     measure(on_searches, ON_SEARCHES);
     morning_through();
+    seeds_through();
     int above = above_limit(on_searches, ON_SEARCHES, BUSDEKKER_STACK);
+    above += above_limit(on_seeds, ON_SEEDS, BUSDEKKER_STACK);
     above += above_limit(on_dispatchers, ON_DISPATCHERS, BUSDEKKER_DISPATCHER_STACK);
     return above == 0 ? 0 : 1;
 }

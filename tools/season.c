@@ -8,7 +8,6 @@
  * counted as one. What a person can put right is said on standard error, in one line; nothing is printed then, and the exit status is 1. A sheet whose
  * name begins with two hyphens is given as ./--NAME.
  */
-#include <ctype.h>
 #include <errno.h>
 #include <inttypes.h>
 #include <stdio.h>
@@ -16,16 +15,15 @@
 #include <string.h>
 
 #include "busdekker.h"
+#include "command.h"
 
 #define IN_PARTS "give them in parts, and add the tables up; of the largest take the larger"
 
-/* Says what is wrong with a file. A control character in its name is shown as '?', so that the line stays one. */
+/* Says what is wrong with a file. */
 static void say_fault(const char *fault, const char *name, int number) {
-    fprintf(stderr, "season: %s '", fault);
-    for (; *name != '\0'; name++) {
-        putc(iscntrl((unsigned char)*name) ? '?' : *name, stderr);
-    }
-    fprintf(stderr, "': %s\n", strerror(number));
+    fprintf(stderr, "season: %s ", fault);
+    say_argument(name);
+    fprintf(stderr, ": %s\n", strerror(number));
 }
 
 /* Reads a sheet, and puts the four numbers of its outcome at `numbers`. Returns 0 after saying why it cannot be read. */
@@ -87,16 +85,6 @@ static void print_csv(const struct busdekker_tally *tallies) {
     }
 }
 
-/* Writes out what was printed. Returns 0 after saying that this failed, now or before. */
-static int write_out(void) {
-    int failed = ferror(stdout);
-    if (fclose(stdout) != 0 || failed) {
-        fprintf(stderr, "season: standard output cannot be written: %s\n", strerror(errno));
-        return 0;
-    }
-    return 1;
-}
-
 /* Prints the season report on the sheets. Returns 0 after saying why there is none. */
 static int report(char **sheets, size_t count, int csv) {
     uint16_t *numbers = take_sheets(sheets, count);
@@ -114,13 +102,13 @@ static int report(char **sheets, size_t count, int csv) {
     } else {
         print_columns(season.tallies);
     }
-    return write_out();
+    return write_out("season");
 }
 
 /* Whether there are sheets, and none of them is an option. */
 static int are_sheets(char **sheets, int count) {
     for (int k = 0; k < count; k++) {
-        if (strncmp(sheets[k], "--", 2) == 0) {
+        if (is_option(sheets[k])) {
             return 0;
         }
     }
@@ -128,8 +116,7 @@ static int are_sheets(char **sheets, int count) {
 }
 
 int main(int argc, char **argv) {
-    if (busdekker_version() != BUSDEKKER_VERSION) {
-        fprintf(stderr, "season: header and archive are of different versions; make builds it again with those that belong together\n");
+    if (!check_version("season")) {
         return 1;
     }
     int csv = argc > 1 && strcmp(argv[1], "--csv") == 0;

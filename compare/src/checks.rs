@@ -114,7 +114,8 @@ pub struct Tally {
     written: u64,
     outcomes: u64,
     seasons: u64,
-    refused: [u64; 20],
+    draws: u64,
+    refused: [u64; 21],
 }
 
 impl Tally {
@@ -151,6 +152,11 @@ impl Tally {
             _ => self.refused[report.number as usize] += 1,
         }
     }
+
+    /// A draw is told after every number.
+    pub fn count_draw(&mut self) {
+        self.draws += 1;
+    }
 }
 
 impl fmt::Display for Tally {
@@ -163,6 +169,7 @@ impl fmt::Display for Tally {
             ("written", self.written),
             ("outcome", self.outcomes),
             ("season", self.seasons),
+            ("draw", self.draws),
         ];
         let others: u64 = kinds.iter().map(|(_, times)| times).sum();
         write!(f, "told {}", others + refused)?;

@@ -9,7 +9,7 @@ use crate::types::{
 pub const WHO: &str = "the proved library, target/staticlib/libbusdekker.a";
 
 /// The version of the interface that is declared here.
-pub const VERSION: u32 = 10;
+pub const VERSION: u32 = 11;
 
 extern "C" {
     fn busdekker_version() -> u32;
@@ -31,6 +31,8 @@ extern "C" {
         reply: *mut u8,
         size: usize,
     ) -> Written;
+    fn busdekker_load(seed: u32) -> Answered;
+    fn busdekker_draw(last: u32) -> u32;
     fn busdekker_dispatch_fresh() -> Dispatcher;
     fn busdekker_dispatch_turn(dispatcher: *const Dispatcher) -> u32;
     fn busdekker_dispatch_open(dispatcher: *mut Dispatcher, dryer: u32, opening: Opening)
@@ -120,6 +122,18 @@ pub fn panel(search: &mut Search, request: &[u8], reply: &mut [u8]) -> Written {
     // lengths are those of two slices: the first is only read, and the second nobody else reads or
     // writes.
     unsafe { busdekker_panel(search, request.as_ptr(), length, reply.as_mut_ptr(), size) }
+}
+
+/// The trial load of a seed.
+pub fn load(seed: u32) -> Answered {
+    // A number goes in and numbers come out.
+    unsafe { busdekker_load(seed) }
+}
+
+/// The draw after this one, or the first after a seed.
+pub fn draw(last: u32) -> u32 {
+    // A number goes in and a number comes out.
+    unsafe { busdekker_draw(last) }
 }
 
 /// A fresh dispatcher.

@@ -13,6 +13,8 @@ pub mod dispatcher;
 #[allow(unsafe_code)]
 pub mod ffi;
 pub mod limits;
+pub mod load;
+pub mod load_model;
 pub mod model;
 pub mod old_default;
 pub mod outcomes;

@@ -12,7 +12,9 @@ use compare::model::{self, Book};
 use compare::oven::dispatchers;
 use compare::rng::Rng;
 use compare::types::{Opening, Report, Search};
-use compare::{beam, ffi, old_default, panel, panel_runs, season, season_sheets, shares, sheets};
+use compare::{
+    beam, ffi, load, old_default, panel, panel_runs, season, season_sheets, shares, sheets,
+};
 use std::process::ExitCode;
 use std::time::Instant;
 
@@ -58,7 +60,7 @@ fn main() -> ExitCode {
 }
 
 /// The parts, in their order.
-fn parts() -> [(&'static str, Part); 22] {
+fn parts() -> [(&'static str, Part); 24] {
     [
         ("lists of values", lists),
         ("runs of the trial book, from a fresh search", runs),
@@ -88,6 +90,8 @@ fn parts() -> [(&'static str, Part); 22] {
             "outcomes of sheets, and seasons",
             season_sheets::sheet_outcomes,
         ),
+        ("draws", load::draws),
+        ("trial loads of seeds", load::loads),
     ]
 }
 

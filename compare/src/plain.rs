@@ -3,8 +3,8 @@
 
 use crate::types::{
     Answer, Answered, Dispatcher, MethodTally, Opening, Outcome, Quotation, Report, Search,
-    SeasonReport, Written, DRYERS, LONGEST_CLEAN_SHEET, LONGEST_REPLY, MOST_OUTCOMES, NOBODY,
-    OUTCOME_NUMBERS, REGISTERS, SLOTS, TALLIES,
+    SeasonReport, Written, DRYERS, LARGEST_SEED, LONGEST_CLEAN_SHEET, LONGEST_REPLY, MOST_OUTCOMES,
+    NOBODY, OUTCOME_NUMBERS, REGISTERS, SLOTS, TALLIES,
 };
 
 const HIGHEST_POINT: i32 = 60_000;
@@ -16,6 +16,8 @@ const SERVED_CEILING: u32 = 1_000_000_000;
 const LARGEST_QUANTITY: usize = 125;
 const VALUE_ENTRY: u16 = 6;
 const OTHER: u16 = 3;
+const MULTIPLIER: u64 = 16_807;
+const MODULUS: u64 = (1 << 31) - 1;
 
 /// A point and its value.
 #[derive(Clone, Copy, PartialEq, Eq, Hash)]
@@ -690,6 +692,55 @@ fn registers(report: &Report) -> [u16; REGISTERS] {
         report.taken as u16,
         0,
     ]
+}
+
+/// The draw after this one, or the first after a seed. 2^31 is 1 modulo the modulus: the bits of the
+/// product above the lowest 31 are added to these, and nothing is divided.
+pub fn draw(last: u32) -> u32 {
+    let product = MULTIPLIER * u64::from(last);
+    let sum = (product & MODULUS) + (product >> 31);
+    let draw = if sum < MODULUS { sum } else { sum - MODULUS };
+    draw as u32
+}
+
+/// The trial load of a seed, walked while its values are drawn.
+pub fn load(seed: u32) -> Answered {
+    if !(1..=LARGEST_SEED).contains(&seed) {
+        return Answered::refuse(20);
+    }
+    let mut last = seed;
+    let mut modulo = |divisor: i32| {
+        last = draw(last);
+        (last % divisor as u32) as i32
+    };
+    let opening = drawn_opening(&mut modulo);
+    let mut walk = Walk::new(&opening).expect("what is drawn is in range");
+    let mut search = Search::fresh(opening);
+    while !walk.stopped {
+        let mut value = modulo(2 * LARGEST_VALUE + 1) - LARGEST_VALUE;
+        if walk.taken == 1 && walk.b.f * i64::from(value) > 0 {
+            value = -value;
+        }
+        search.slots[walk.taken as usize] = value;
+        walk.take(value).expect("what is drawn is accepted");
+    }
+    search.count = walk.taken;
+    let report = walk.report();
+    Answered { report, search }
+}
+
+/// The opening of a trial load, from what the next draws are modulo some number.
+#[inline]
+fn drawn_opening(modulo: &mut impl FnMut(i32) -> i32) -> Opening {
+    let points = HIGHEST_POINT + 1;
+    let first = modulo(points);
+    let mut second = modulo(points);
+    if second == first {
+        second = (first + 1) % points;
+    }
+    let tolerance = 1 + modulo(LARGEST_TOLERANCE);
+    let method = 1 + modulo(2);
+    Opening::new(method, first, second, tolerance)
 }
 
 /// The dryer that has the oven's turn, with the walk of its search.

@@ -30,6 +30,9 @@ pub const OUTCOME_NUMBERS: usize = 4;
 /// The tallies of a season report: of the methods 0, 1 and 2, and of any other.
 pub const TALLIES: usize = 4;
 
+/// The largest seed of a trial load; the least is 1.
+pub const LARGEST_SEED: u32 = 2_147_483_646;
+
 /// An opening: method, x0, x1, τ and p, each as it was offered.
 #[repr(C)]
 #[derive(Clone, Copy, Debug, PartialEq, Eq)]
@@ -69,6 +72,9 @@ pub struct Search {
 }
 
 impl Search {
+    /// The search of which every number is 0.
+    pub const BLANK: Search = Search::fresh(Opening::new(0, 0, 0, 0));
+
     /// A search of this opening with a count of 0 and slots of 0.
     pub const fn fresh(opening: Opening) -> Self {
         Search {
@@ -107,7 +113,7 @@ impl Dispatcher {
     /// No search, which is six of nothing but 0; nobody served; and six counts of 0.
     pub const fn fresh() -> Self {
         Dispatcher {
-            searches: [Search::fresh(Opening::new(0, 0, 0, 0)); DRYERS],
+            searches: [Search::BLANK; DRYERS],
             last: NOBODY,
             counts: [0; DRYERS],
         }
@@ -364,6 +370,16 @@ impl SeasonReport {
 pub struct Answered {
     pub report: Report,
     pub search: Search,
+}
+
+impl Answered {
+    /// A refusal whose place is 0, and beside it the search of which every number is 0.
+    pub const fn refuse(number: u32) -> Self {
+        Answered {
+            report: Report::refuse(number, 0),
+            search: Search::BLANK,
+        }
+    }
 }
 
 // The layout that include/busdekker.h has.

@@ -22,6 +22,10 @@ const MANY: usize = 20_000;
 /// How many of the longest searches that the beam finds are timed, by M and by R each.
 const LONG: usize = 150;
 
+/// How many seeds' loads are timed, and how many draws.
+const SEEDS: u32 = 1_000;
+const DRAWS: u32 = 10_000;
+
 /// One search that was answered up to its stop, in every form in which it is to be handed over.
 struct Work {
     opening: Opening,
@@ -63,6 +67,8 @@ struct Calls {
     season: fn(&[u16]) -> SeasonReport,
     write: fn(&Search, &mut [u8]) -> Written,
     panel: fn(&mut Search, &[u8], &mut [u8]) -> Written,
+    load: fn(u32) -> Answered,
+    draw: fn(u32) -> u32,
     dispatch_enter: fn(&mut Dispatcher, u32, Answer) -> Report,
     dispatch_turn: fn(&Dispatcher) -> u32,
 }
@@ -76,6 +82,8 @@ const LIBRARY: Calls = Calls {
     season: ffi::season,
     write: ffi::write,
     panel: ffi::panel,
+    load: ffi::load,
+    draw: ffi::draw,
     dispatch_enter: ffi::dispatch_enter,
     dispatch_turn: ffi::dispatch_turn,
 };
@@ -89,6 +97,8 @@ const PLAIN: Calls = Calls {
     season: plain::season,
     write: plain::write,
     panel: plain::panel,
+    load: plain::load,
+    draw: plain::draw,
     dispatch_enter: plain::dispatch_enter,
     dispatch_turn: plain::dispatch_turn,
 };
@@ -117,6 +127,7 @@ fn main() {
     dispatchers(&works);
     panels(&works);
     seasons(&works);
+    loads(&works);
     let long = long(&mut rng);
     table("long searches", &long);
     println!("an answer into the host's search, by the answers that it holds already:");
@@ -271,6 +282,15 @@ fn season_of(works: &[Work]) -> Vec<u16> {
         }
     }
     run.iter().flat_map(|outcome| outcome.numbers()).collect()
+}
+
+/// Two lines: the loads of the first seeds, and the first draws from seed 1.
+fn loads(works: &[Work]) {
+    let answers: u32 = (1..=SEEDS).map(|seed| plain::load(seed).search.count).sum();
+    let mean = f64::from(answers) / f64::from(SEEDS);
+    println!("{SEEDS} trial loads of {mean:.1} answers in the mean, and {DRAWS} draws:");
+    line("  a trial load", works, SEEDS as usize, &loading);
+    line("  a draw", works, DRAWS as usize, &drawing);
 }
 
 /// How the cost of an answer, entered into the host's search, grows with the answers before it.
@@ -441,6 +461,27 @@ fn reporting(calls: Calls, numbers: &[u16]) -> f64 {
     let start = Instant::now();
     black_box((calls.season)(black_box(numbers)));
     start.elapsed().as_nanos() as f64
+}
+
+/// The load of every seed from 1 on.
+fn loading(calls: Calls, _: &[Work]) -> f64 {
+    let start = Instant::now();
+    for seed in 1..=SEEDS {
+        black_box((calls.load)(black_box(seed)));
+    }
+    start.elapsed().as_nanos() as f64
+}
+
+/// Draws one after the other, from seed 1.
+fn drawing(calls: Calls, _: &[Work]) -> f64 {
+    let mut last = black_box(1);
+    let start = Instant::now();
+    for _ in 0..DRAWS {
+        last = (calls.draw)(last);
+    }
+    let time = start.elapsed();
+    black_box(last);
+    time.as_nanos() as f64
 }
 
 /// The clean sheet of every work's search at its stop. All of them go into one buffer, one after

@@ -1,16 +1,16 @@
-//! The programs clean, zeroin and old_default and the command season beside the model: each is run
-//! on texts of every kind, from a fixed seed, and what it writes is compared. It ends with the
-//! number of runs and exit status 0, or with the first mismatch and exit status 1.
+//! The programs clean, zeroin and old_default and the commands season and load beside the model: load
+//! is run on many seeds, each of the others on texts of every kind, from a fixed seed, and what they
+//! write is compared. It ends with the number of runs and exit status 0, or with the first mismatch
+//! and exit status 1.
 
 #![forbid(unsafe_code)]
 
 use compare::checks::{agree, Checked};
 use compare::model::{self, Book, Reading, OLD, TODAY};
 use compare::rng::Rng;
-use compare::season_model;
 use compare::sheets::{self, Text};
-use compare::types::{MethodTally, Opening, Report, SeasonReport, TALLIES};
-use compare::{beam, cases};
+use compare::types::{MethodTally, Opening, Report, SeasonReport, LARGEST_SEED, TALLIES};
+use compare::{beam, cases, load_model, season_model};
 use std::io::{ErrorKind, Write};
 use std::path::{Path, PathBuf};
 use std::process::{Command, ExitCode, Output, Stdio};
@@ -29,6 +29,10 @@ const FILES: usize = 400;
 const MOST_SHEETS: usize = 60;
 const SEASONS: usize = 3;
 
+/// The seeds from 1 on whose loads are tried, and every which of them zeroin reads.
+const SEEDS: u32 = 10_000;
+const READ_BACK: u32 = 10;
+
 fn main() -> ExitCode {
     match programs(&mut Rng::new(SEED)) {
         Ok(tried) => {
@@ -42,7 +46,8 @@ fn main() -> ExitCode {
     }
 }
 
-/// Every text on the three programs, and some of them on season. What was tried is told in words.
+/// Every text on the three programs, and some of them on season; then load. What was tried is told in
+/// words.
 fn programs(rng: &mut Rng) -> Result<String, String> {
     let mut three = Programs {
         clean: built("clean", "rt check clean")?,
@@ -51,6 +56,7 @@ fn programs(rng: &mut Rng) -> Result<String, String> {
         runs: 0,
     };
     let season = built("season", "make target/bin/season")?;
+    let load = built("load", "make target/bin/load")?;
     let texts = [texts(rng), old_texts(rng)].concat();
     let mut accepted = 0;
     let mut old = Old::default();
@@ -62,9 +68,10 @@ fn programs(rng: &mut Rng) -> Result<String, String> {
     let (runs, all) = (three.runs, texts.len());
     let old = old.told()?;
     let seasons = seasons(&season, &texts, rng)?;
+    let loads = loads(&load, &three.zeroin)?;
     Ok(format!(
         "{runs} runs of clean, zeroin and old_default on {all} texts, {accepted} of them sheets to \
-         clean; {old}; {seasons}"
+         clean; {old}; {seasons}; {loads}"
     ))
 }
 
@@ -437,4 +444,29 @@ fn columns(first: &str, others: [String; 6]) -> String {
 /// A record of RFC 4180.
 fn record(first: &str, others: [String; 6]) -> String {
     format!("{first},{}\r\n", others.join(","))
+}
+
+/// load on many seeds: it writes the clean sheet that the model has for the load. zeroin reads some of
+/// them, and its record is the load's report. What was tried is told in words.
+fn loads(program: &Path, zeroin: &Path) -> Result<String, String> {
+    let (mut runs, mut read) = (0, 0);
+    for seed in (1..=SEEDS).chain([LARGEST_SEED]) {
+        let load = load_model::load(seed);
+        let sheet = model::clean(&load.search).map_err(|refusal| format!("{refusal} of {seed}"))?;
+        let input = || format!("load with the seed {seed}");
+        let mut command = Command::new(program);
+        command.arg(seed.to_string()).stdin(Stdio::null());
+        let printed = written(program, command.output(), input)?;
+        agree(Text(sheet), Text(printed.clone()), input)?;
+        runs += 1;
+        if seed.is_multiple_of(READ_BACK) || seed == LARGEST_SEED {
+            let report = format!("{}\r\n", load.report);
+            let record = run(zeroin, &printed)?;
+            same("zeroin", &printed, report.as_bytes(), &record)?;
+            read += 1;
+        }
+    }
+    Ok(format!(
+        "{runs} runs of load, {read} of them read by zeroin"
+    ))
 }

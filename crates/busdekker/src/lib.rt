@@ -7,6 +7,7 @@ ghost use Rattle.held.specs.Held.{reopenOf, heldReport, enterOf};
 ghost use Rattle.outcomes.specs.Sheet.{sheetOf};
 ghost use Rattle.clean_sheets.specs.Clean.{writtenOf, bufferOf, writtenRowOf};
 ghost use Rattle.changeover.specs.Changeover.{changedSearch};
+ghost use Rattle.loading.specs.Loading.{nextDraw, loadOf};
 ghost use Rattle.numbered.specs.Numbered.{answeredOf};
 ghost use Rattle.registers.specs.Exchange.{exchangedOf, replyBuffer};
 ghost use Rattle.panel_numbers.specs.Numbers.{repliedRowOf};
@@ -31,7 +32,7 @@ use seasons::SeasonRow;
 pub extern "C" fn busdekker_version() -> u32
     ensures { λ r. ⌜ r ≡ version ⌝ }
 {
-    10
+    11
 }
 
 // t and the most answers that an opening may need.
@@ -157,6 +158,22 @@ pub extern "C" fn busdekker_panel(
     let e = panel_numbers::step_panel(*search, request, reply);
     *search = e.search;
     e.replied
+}
+
+// The trial load of a seed and its report, or the refusal of what is no seed.
+#[no_mangle]
+pub extern "C" fn busdekker_load(seed: u32) -> Answered
+    ensures { λ r. ⌜ r ≡ answeredOf (loadOf seed) ⌝ }
+{
+    numbered::step_load(seed)
+}
+
+// The draw after this one, or the first one after a seed.
+#[no_mangle]
+pub extern "C" fn busdekker_draw(last: u32) -> u32
+    ensures { λ r. ⌜ r ≡ nextDraw last ⌝ }
+{
+    load::next_draw(last)
 }
 
 // A fresh dispatcher: no search, none served and every count 0.

@@ -164,7 +164,7 @@ counted-at o n p (v ∷ vs) (suc i) h c =
     rw (← e) (counted-at o (n + 1) (takeOf o p v) vs i (omega arith) (counted-offer o n p false v c))
 
 -- so its report is a next point
-report-next : (o : Opening) (n : ℕ) (p : Progress) → CountedAt n p → isRefused p ≡ false → stoppedAt o p ≡ false
+pub report-next : (o : Opening) (n : ℕ) (p : Progress) → CountedAt n p → isRefused p ≡ false → stoppedAt o p ≡ false
     → reportAt o p ≡ Report.Next (calledAt o p) n
 unfolding reportAt bracketReport
 report-next o n Progress.Begun c e g = ap (Report.Next (firstOf o)) (sym c)

@@ -1,7 +1,7 @@
--- The laws of held searches: the report after an accepted answer, that slots at or past the count never alter a report, that a blank is
--- refused by every call, and what a verdict leaves. What is about the parts of a search is in crate `verdicts`.
+-- The laws of held searches: the report after an accepted answer, that slots at or past the count never alter a report, that reports stay
+-- within limits, that a blank is refused by every call, and what a verdict leaves. What is about the parts of a search is in crate `verdicts`.
 -- Assumes nothing.
-use Prim.Native.Nat.{ℕ, _<_}
+use Prim.Native.Nat.{ℕ, _≤_, _<_}
 use mathlib.Core.Path.{_≡_, refl, sym, ap, ap₂, subst, _∙_}
 use mathlib.Core.Bool.{Bool, true, false, cond}
 use mathlib.Core.List.{List}
@@ -12,11 +12,14 @@ use lib.IntN.{ℤ, pos}
 use lib.ListN.{length, set}
 use lib.Seq.{set-getD}
 use Rattle.rules.specs.declared.Opening.{Opening}
+use Rattle.rules.specs.declared.Bracket.{Bracket}
 use Rattle.rules.specs.declared.Progress.{Progress}
 use Rattle.rules.specs.declared.Report.{Report}
-use Rattle.rules.specs.Rules.{slots, firstOf}
+use Rattle.rules.specs.Rules.{highest, slots, firstOf, lowerOf, upperOf, stoppedOf, nextOf}
 use Rattle.rules.specs.Refusals.{openingRefusal, countAbove}
-use Rattle.rules.specs.Search.{isRefused, otherAt, beginOf, offerOf, progressOf, reportAt, reportOf}
+use Rattle.rules.specs.RefusalsLaws.{Opened}
+use Rattle.rules.specs.Search.{isRefused, otherAt, beginOf, offerOf, progressOf, bracketReport, reportAt, reportOf}
+use Rattle.rules.specs.SearchLaws.{Sound, SoundAt, ahead, most-slots, sound}
 use Rattle.verdicts.specs.declared.Verdict.{Verdict}
 use Rattle.verdicts.specs.Judged.{standingBy, verdictOf}
 use Rattle.verdicts.specs.JudgedLaws.{free-slot, tried-more}
@@ -68,6 +71,48 @@ module _ (s s' : Search) (a : Agree s s') where
       enter-report s x v h
       ∙ ap₂ (λ (o : Opening) (p : Progress). reportAt o (offerOf o p (otherAt o p x) v)) (a .opening) same-standing
       ∙ sym (enter-report s' x v h')
+
+-- ---- the points of every report lie within limits, and its answers are no more than the slots
+
+abbrev pub WithinLimits : Report → Type 0
+WithinLimits (Report.Next point taken) = (point ≤ highest) × (taken ≤ slots)
+WithinLimits (Report.Stop lower upper better taken) = (lower ≤ highest) × (upper ≤ highest) × (better ≤ highest) × (taken ≤ slots)
+WithinLimits (Report.Refused number place) = Unit {0}
+
+module _ (o : Opening) where
+  bracket-limited : (k : Bracket) → Opened o → Sound o k → WithinLimits (bracketReport o k)
+  unfolding bracketReport
+  bracket-limited k op sound = go (stoppedOf o k) refl
+    where
+      few : k .taken ≤ slots
+      few = omega (arith, sound .bound .most, most-slots o op)
+
+      go : (b : Bool) → stoppedOf o k ≡ b
+          → WithinLimits (cond b (Report.Stop (lowerOf k) (upperOf k) (k .better .point) (k .taken)) (Report.Next (nextOf o k) (k .taken)))
+      go true e =
+          let b = sound .limits .better .point in
+          let c = sound .limits .other .point in
+          (omega arith, omega arith, b, few)
+      go false e = (omega (arith, ahead o k (pos 0) op sound e .below, sound .limits .better .point, sound .limits .other .point), few)
+
+  report-limited : (p : Progress) → SoundAt o p → WithinLimits (reportAt o p)
+  unfolding reportAt
+  report-limited Progress.Begun op = (op .first .most, omega arith)
+  report-limited (Progress.First v) s = (s .0 .second .most, omega arith)
+  report-limited (Progress.Bracketed k) s = bracket-limited k (s .0) (s .1)
+  report-limited (Progress.Refused n i) s = tt
+
+standing-sound : (s : Search) → SoundAt (s .opening) (standingOf s)
+unfolding standingOf
+standing-sound s = go (ltb slots (s .count))
+  where
+    go : (b : Bool) → SoundAt (s .opening) (cond b (Progress.Refused countAbove 0) (progressOf (s .opening) (valuesOf s)))
+    go true = tt
+    go false = sound (s .opening) (valuesOf s)
+
+pub held-limited : (s : Search) → WithinLimits (heldReport s)
+unfolding heldReport
+held-limited s = report-limited (s .opening) (standingOf s) (standing-sound s)
 
 -- ---- a blank is refused by every call
 

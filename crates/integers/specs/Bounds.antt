@@ -80,16 +80,20 @@ pub within-quot : {a : ℤ} {m : ℕ} → Within a m → (b : ℤ) → Within (q
 within-quot {a} {m} h b =
     record { abs-le = le-trans (le-of-eq (abs-quot a b)) (le-trans (div-le-self (natAbs a) (natAbs b)) (h .abs-le)) }
 
--- the difference of two naturals is within the larger's bound, and not only within the sum of the two
-abs-difference : (a b k : ℕ) → a ≤ k → b ≤ k → natAbs (pos a -ℤ pos b) ≤ k
-abs-difference a zero k h g = omega arith
-abs-difference a (suc b) k h g =
+-- two naturals that are no more than k apart
+abs-apart : (a b k : ℕ) → a ≤ b + k → b ≤ a + k → natAbs (pos a -ℤ pos b) ≤ k
+abs-apart a zero k h g = omega arith
+abs-apart a (suc b) k h g =
     by-test (ltb a (suc b)) (negsuc (suc b - suc a)) (pos (a - suc b)) (λ (z : ℤ). natAbs z ≤ k)
     (λ t. let l = ltb→lt a (suc b) t in omega arith)
     (λ t. omega arith)
 
+pub within-apart : {a b k : ℕ} → a ≤ b + k → b ≤ a + k → Within (pos a -ℤ pos b) k
+within-apart {a} {b} {k} h g = record { abs-le = abs-apart a b k h g }
+
+-- their difference is within the larger's bound, and not only within the sum of the two
 pub within-difference : {a b k : ℕ} → a ≤ k → b ≤ k → Within (pos a -ℤ pos b) k
-within-difference {a} {b} {k} h g = record { abs-le = abs-difference a b k h g }
+within-difference {a} {b} h g = within-apart {a = a} {b = b} (omega arith) (omega arith)
 
 -- ---- a number fits a width where its absolute value is below half the width's power
 

@@ -136,7 +136,7 @@ pub sample-is : (a : Answer) (x : ℕ) → a .point ≡ pos x → sampleOf a ≡
 sample-is a x e = ap (λ (z : ℤ). record { point = natAbs z; value = a .value }) e
 
 -- a value in range is taken while no refusal applies
-take-passes : (o : Opening) (p : Progress) (v : ℤ) → isRefused p ≡ false → stoppedAt o p ≡ false → natAbs v ≤ largestValue
+pub take-passes : (o : Opening) (p : Progress) (v : ℤ) → isRefused p ≡ false → stoppedAt o p ≡ false → natAbs v ≤ largestValue
     → sameSideAt p v ≡ false → takeOf o p v ≡ enteredAt o p v
 unfolding takeOf offerOf answerRefusal
 take-passes o Progress.Begun v r s h d = simp (le-ltb largestValue (natAbs v) h)

@@ -1,4 +1,4 @@
-// The calls on a search with the report in plain numbers, by value: what the interface for C does to the host's own search.
+// The calls on a search with the report in plain numbers, by value: what the interface for C does to the host's own search; and the trial load.
 ghost use mathlib.Core.Path.{_≡_};
 ghost use Rattle.rules.specs.Rows.{rowOf};
 ghost use Rattle.held.specs.Held.{reopenOf, heldReport};
@@ -6,9 +6,11 @@ ghost use Rattle.verdicts.specs.Judged.{verdictOf};
 ghost use Rattle.numbered.specs.Numbered.{answeredOf};
 ghost use Rattle.clean_sheets.specs.Clean.{writtenOf, bufferOf, writtenRowOf};
 ghost use Rattle.changeover.specs.Changeover.{changedSearch};
+ghost use Rattle.loading.specs.Loading.{loadOf};
 ghost use Rattle.numbered.specs.Inner.{numberedOf};
 use clean_sheets::Written;
 use clean_sheets::WrittenRow;
+use held::Entered;
 use held::Search;
 use rules::Opening;
 use rules::Row;
@@ -28,17 +30,23 @@ pub struct NumberedVerdict {
     pub value: i32,
 }
 
+// A report as plain numbers, beside its search.
+fn in_numbers(e: Entered) -> Answered
+    ensures { λ r. ⌜ r ≡ answeredOf e ⌝ }
+{
+    let report = e.report;
+    let search = e.search;
+    Answered {
+        report: rows::row_of(report),
+        search,
+    }
+}
+
 // A fresh search of an opening in a search's place.
 pub fn step_open(search: Search, opening: Opening) -> Answered
     ensures { λ r. ⌜ r ≡ answeredOf (reopenOf search opening) ⌝ }
 {
-    let e = search.reopen(opening);
-    let report = e.report;
-    let next = e.search;
-    Answered {
-        report: rows::row_of(report),
-        search: next,
-    }
+    in_numbers(search.reopen(opening))
 }
 
 // What an answer does to a search.
@@ -66,13 +74,14 @@ pub fn step_ask(search: Search) -> Row
 pub fn step_change(search: Search) -> Answered
     ensures { λ r. ⌜ r ≡ answeredOf (changedSearch search) ⌝ }
 {
-    let e = changing::change_search(search);
-    let report = e.report;
-    let changed = e.search;
-    Answered {
-        report: rows::row_of(report),
-        search: changed,
-    }
+    in_numbers(changing::change_search(search))
+}
+
+// The trial load of a seed, or the refusal of what is no seed.
+pub fn step_load(seed: u32) -> Answered
+    ensures { λ r. ⌜ r ≡ answeredOf (loadOf seed) ⌝ }
+{
+    in_numbers(load::load(seed))
 }
 
 // Writes the clean sheet of a search into a buffer, or refuses that.

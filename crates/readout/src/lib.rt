@@ -3,9 +3,10 @@
 ghost use mathlib.Core.Path.{_≡_};
 ghost use Prim.Native.Nat.{_+_, _*_, _≤_};
 ghost use lib.ListN.{length};
+ghost use Rattle.held.specs.HeldLaws.{WithinLimits};
 ghost use Rattle.registers.specs.Registers.{registersAt};
 ghost use Rattle.registers.specs.Exchange.{readReply, longestReply};
-ghost use Rattle.registers.specs.Inner.{Limited, readTold, Readable};
+ghost use Rattle.registers.specs.Inner.{readTold, Readable};
 ghost use Rattle.modbus.specs.Reply.{Holds};
 ghost use Rattle.readout.specs.Words.{withWord, withWords};
 use modbus::Reply;
@@ -21,7 +22,7 @@ const NO_POINT: u16 = 0;
 
 // The registers of a report, whose points lie within limits.
 pub fn registers_at(report: Report) -> [u16; registers::REGISTERS]
-    requires { ⌜ Limited report ⌝ }
+    requires { ⌜ WithinLimits report ⌝ }
     ensures { λ r. ⌜ r ≡ registersAt report ⌝ }
 {
     match report {

@@ -1,4 +1,4 @@
--- What only the contracts of inner functions cite, and nobody need believe: the limits of a report, what a read and a write come to once the
+-- What only the contracts of inner functions cite, and nobody need believe: what a read and a write come to once the
 -- search and the function are known, and what a request without a fault is.
 -- Assumes nothing.
 use Prim.Native.Nat.{ℕ, _+_, _≤_}
@@ -7,19 +7,10 @@ use mathlib.Core.Bool.{cond, not}
 use mathlib.Core.List.{List}
 use lib.Dec.{eqb}
 use lib.ListN.{length}
-use Rattle.rules.specs.declared.Report.{Report}
-use Rattle.rules.specs.Rules.{highest, slots}
 use Rattle.held.specs.declared.Search.{Search}
 use Rattle.registers.specs.Registers.{registerCount, entryRegister}
 use Rattle.registers.specs.Exchange.{readHolding, writeSingle, requestLength, addressOf, quantityOf, entryOf, illegalAddress, illegalValue}
 use Rattle.registers.specs.Exchange.{wrongLength, readFault, writeFault, exceptionReply, readReply, echoReply, Exchange}
-
--- ---- the points of a report lie within limits, and its answers are no more than the slots
-
-abbrev pub Limited : Report → Type 0
-Limited (Report.Next point taken) = (point ≤ highest) × (taken ≤ slots)
-Limited (Report.Stop lower upper better taken) = (lower ≤ highest) × (upper ≤ highest) × (better ≤ highest) × (taken ≤ slots)
-Limited (Report.Refused number place) = Unit {0}
 
 -- ---- what a read and a write come to, once the search and the function are known
 

@@ -58,6 +58,9 @@ pub const REPLY_TOO_SHORT: u32 = 18;
 // A run of outcomes that a season report is made of: more than 10,000 of them, or numbers not in whole fours.
 pub const MISSHAPEN_RUN: u32 = 19;
 
+// The seed of a trial load: not 1 to 2,147,483,646.
+pub const SEED_OUT_OF_RANGE: u32 = 20;
+
 // An opening: the method, the first end x0, the second end x1, the tolerance τ, and the share p of a setting that is added to it, in parts
 // per thousand. A sheet may hold any of them out of range.
 #[repr(C)]

@@ -13,8 +13,8 @@ use Rattle.rules.specs.Search.{isRefusal}
 use Rattle.held.specs.declared.Search.{Search}
 use Rattle.held.specs.Held.{heldReport}
 use Rattle.registers.specs.Registers.{registersAt, registersOf}
-use Rattle.registers.specs.Inner.{Limited, readTold}
-use Rattle.registers.specs.RegistersLaws.{held-limited}
+use Rattle.registers.specs.Inner.{readTold}
+use Rattle.held.specs.HeldLaws.{WithinLimits, held-limited}
 use Rattle.registers.specs.ExchangeLaws.{empty-exchange, refused-exchange, other-exchange, read-exchange, write-exchange}
 use Rattle.modbus.specs.Reply.{Holds}
 use Rattle.panel.proofs.respond.Statement.{statement}
@@ -70,7 +70,7 @@ returns-2 c =
     rw (refused-exchange (search-at r) (request-at r) (some r) refused) (record { reply = c .exception .ensures; search = refl })
 
 registers-at-requires : tie.Need-registers-at-requires
-registers-at-requires c κs = subst Limited (sym (c .before .before .report .ensures)) (held-limited _)
+registers-at-requires c κs = subst WithinLimits (sym (c .before .before .report .ensures)) (held-limited _)
 
 read-requires : tie.Need-read-requires
 read-requires c κs = search needs

@@ -2,7 +2,7 @@
 -- Assumes nothing.
 use mathlib.Core.Path.{subst}
 use native.Mathlib.Omega.{arith}
-use Rattle.registers.specs.Inner.{Limited}
+use Rattle.held.specs.HeldLaws.{WithinLimits}
 use borrow.Author.Needs.{needs}
 use Rattle.readout.proofs.registers_at.Statement.{statement}
 use Rattle.readout.proofs.registers_at.Tie as tie
@@ -11,25 +11,25 @@ enum-known-report : tie.Need-enum-known-report
 enum-known-report c = search needs
 
 cast-t9 : tie.Need-cast-t9
-cast-t9 c = let l = subst Limited (c .before .report .given .1) (c .before .before .before .pre) in omega (arith, l .0)
+cast-t9 c = let l = subst WithinLimits (c .before .report .given .1) (c .before .before .before .pre) in omega (arith, l .0)
 
 cast-t10 : tie.Need-cast-t10
-cast-t10 c = let l = subst Limited (c .before .report .given .1) (c .before .before .before .pre) in omega (arith, l .1)
+cast-t10 c = let l = subst WithinLimits (c .before .report .given .1) (c .before .before .before .pre) in omega (arith, l .1)
 
 enum-known-report-2 : tie.Need-enum-known-report-2
 enum-known-report-2 c = search needs
 
 cast-t11 : tie.Need-cast-t11
-cast-t11 c = let l = subst Limited (c .before .report2 .given .1) (c .before .before .before .pre) in omega (arith, l .0)
+cast-t11 c = let l = subst WithinLimits (c .before .report2 .given .1) (c .before .before .before .pre) in omega (arith, l .0)
 
 cast-t12 : tie.Need-cast-t12
-cast-t12 c = let l = subst Limited (c .before .report2 .given .1) (c .before .before .before .pre) in omega (arith, l .1)
+cast-t12 c = let l = subst WithinLimits (c .before .report2 .given .1) (c .before .before .before .pre) in omega (arith, l .1)
 
 cast-t13 : tie.Need-cast-t13
-cast-t13 c = let l = subst Limited (c .before .report2 .given .1) (c .before .before .before .pre) in omega (arith, l .2)
+cast-t13 c = let l = subst WithinLimits (c .before .report2 .given .1) (c .before .before .before .pre) in omega (arith, l .2)
 
 cast-t14 : tie.Need-cast-t14
-cast-t14 c = let l = subst Limited (c .before .report2 .given .1) (c .before .before .before .pre) in omega (arith, l .3)
+cast-t14 c = let l = subst WithinLimits (c .before .report2 .given .1) (c .before .before .before .pre) in omega (arith, l .3)
 
 enum-told : tie.Need-enum-told
 enum-told c = search needs
