@@ -173,8 +173,8 @@ struct busdekker_answer {
 };
 
 /* A search that the host holds: its opening, the number of answers taken, and their values in the first slots. The others hold 0. Only
- * busdekker_open, busdekker_enter, busdekker_panel and busdekker_change_over should write it, but for a copy of a search that busdekker_entered or
- * busdekker_load returned, and for the copy from an older version that stands at BUSDEKKER_VERSION. */
+ * busdekker_open, busdekker_enter, busdekker_panel and busdekker_change_over should write it, but for a copy of a search that busdekker_entered,
+ * or busdekker_load without a refusal, returned, and for the copy from an older version that stands at BUSDEKKER_VERSION. */
 struct busdekker_search {
     struct busdekker_opening opening;
     uint32_t count;
@@ -304,7 +304,7 @@ struct busdekker_season_report {
     struct busdekker_tally tallies[BUSDEKKER_TALLIES];
 };
 
-/* A report, and the search as it then is. */
+/* A report, and the search as it then is; beside the refusal of a seed, one of which every number is 0. */
 struct busdekker_answered {
     struct busdekker_report report;
     struct busdekker_search search;
@@ -338,8 +338,8 @@ struct busdekker_report busdekker_enter(struct busdekker_search *search, int32_t
 struct busdekker_answered busdekker_entered(struct busdekker_search search, int32_t point, int32_t value);
 
 /* Asks for the report of *search as it stands, which is read and not written. Slots at or past the count never alter it. A refusal (1 to 5, 7
- * to 9, 17) says that *search was not made by busdekker_open and the answers entered since, nor by busdekker_load, or was begun before version 8
- * with method 0 and is not changed over. */
+ * to 9, 17) says that *search is neither what busdekker_open and the answers entered since made, nor the load of a seed, or that it was begun
+ * before version 8 with method 0 and is not changed over. */
 struct busdekker_report busdekker_ask(const struct busdekker_search *search);
 
 /* The report on an opening and the values answered so far, in the order called for. `values` points to `length` numbers, any number of them,
@@ -432,21 +432,22 @@ struct busdekker_report busdekker_change_over(struct busdekker_search *search);
 struct busdekker_written busdekker_panel(struct busdekker_search *search, const uint8_t *request, size_t length, uint8_t *reply, size_t size);
 
 /*
- * The trial load of a seed, to try a panel or a host with made-up leaf: a search that has stopped, the same wherever and whenever it is made. The
- * draws of the generator of Park and Miller (busdekker_draw) give its numbers, in this order; the seed is itself no draw:
+ * The trial load of a seed, to try a panel or a host with made-up leaf: a search that has stopped, the same wherever and whenever it is made. Its
+ * numbers come from the generator of Park and Miller (busdekker_draw). Each takes one draw, the next, in this order; the seed is itself no draw:
  *
  *   the first end    the draw modulo 60,001
- *   the second end   the next draw modulo 60,001; where that is the first end, the first end plus 1, modulo 60,001
- *   the tolerance    1 plus the draw modulo 5,000
- *   the method       1 plus the draw modulo 2
- *   each value       the draw modulo 20,001, less 10,000. Where the second is above 0 as the first is, or below 0 as the first is, its sign is
- *                    changed
+ *   the second end   the draw modulo 60,001; where that is the first end, the first end plus 1, modulo 60,001
+ *   the tolerance    the draw modulo 5,000, plus 1
+ *   the method       the draw modulo 2, plus 1: BUSDEKKER_M or BUSDEKKER_R
+ *   each value       the draw modulo 20,001, less 10,000. Where the first two values are both above 0 or both below 0, the sign of the second is
+ *                    changed, and of no other
  *
- * The share is 0. Values are drawn until the search stops, and no more: never more than busdekker_quote tells for its opening. Slots at or past
+ * The share is 0. Values are drawn until the search stops, and no more: never more than `most` of busdekker_quote for its opening. Slots at or past
  * the count hold 0. The report is the one that busdekker_ask tells of the search, BUSDEKKER_STOP; busdekker_write gives its clean sheet, which
- * busdekker_sheet reads as this search.
+ * busdekker_sheet reads as this search. To run it, a host opens a search with its opening and enters slots[0] to slots[count - 1] in turn, each for the
+ * point called for, by busdekker_enter or a panel: it then has this search, and the last report is this one. The points stand in the clean sheet.
  * A refusal (20, place 0) says that the seed is not 1 to BUSDEKKER_LARGEST_SEED; beside it stands a search of which every number is 0, and which
- * busdekker_ask refuses (3). A host whose seed has more than 32 bits looks for itself that it is in range before it passes it.
+ * busdekker_ask refuses (3). Of a wider number than 32 bits C passes the low 32, which may be a seed: the host looks at it first.
  */
 struct busdekker_answered busdekker_load(uint32_t seed);
 
