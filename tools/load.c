@@ -55,7 +55,7 @@ int main(int argc, char **argv) {
     if (!read_number(argv[1], &seed) || !print_load(seed)) {
         fprintf(stderr, "load: ");
         say_argument(argv[1]);
-        fprintf(stderr, " is no seed: give a whole number from 1 to %d\n", BUSDEKKER_LARGEST_SEED);
+        fprintf(stderr, " is no seed: give a number from 1 to %d in digits alone, with no leading zero\n", BUSDEKKER_LARGEST_SEED);
         return 1;
     }
     return write_out("load") ? 0 : 1;

@@ -104,6 +104,14 @@ impl Kinds {
     }
 }
 
+/// The names of those that came.
+pub fn named(names: &[&'static str], came: &[bool]) -> Vec<&'static str> {
+    let both = names.iter().zip(came);
+    both.filter(|(_, &came)| came)
+        .map(|(&name, _)| name)
+        .collect()
+}
+
 /// What was tried, and what was answered.
 #[derive(Default)]
 pub struct Tally {

@@ -1,9 +1,8 @@
 //! The trial load: the comparison's parts on draws and on the loads that seeds make.
 
-use crate::checks::{agree, search_as_sheet, Checked, Kinds, Tally};
+use crate::checks::{agree, named, search_as_sheet, Checked, Kinds, Tally};
 use crate::clean::written;
 use crate::rng::Rng;
-use crate::season::named;
 use crate::sheets::Text;
 use crate::types::{Answered, Opening, Report, Search, LARGEST_SEED, LONGEST_REPLY, SLOTS};
 use crate::{ffi, load_model, model, requests};
@@ -306,7 +305,6 @@ impl Told<'_> {
 
 /// What is claimed of a refused load apart from its model: the search beside it is refused too.
 fn refused_load_holds(load: &Answered, input: impl Fn() -> String) -> Checked {
-    agree(Answered::refuse(20), *load, &input)?;
     agree(Report::refuse(3, 0), ffi::ask(&load.search), input)
 }
 
@@ -373,21 +371,17 @@ fn entered_by_panel(load: &Search) -> Search {
 /// The loads of seeds of every kind, and seeds that are refused.
 pub fn loads(rng: &mut Rng, tally: &mut Tally) -> Checked {
     let mut told = Told::new(tally);
-    let (equal_ends, two_values) = (seeds_with_equal_ends(), seeds_with_two_values_at_limits());
-    for seed in [at_limits(), equal_ends, two_values, LONG.to_vec()].concat() {
+    let seeds = [
+        at_limits(),
+        seeds_with_equal_ends(),
+        seeds_with_two_values_at_limits(),
+        LONG.to_vec(),
+        seeds_with_a_draw(rng),
+        any_seeds(rng),
+        seeds_above(rng),
+    ];
+    for seed in seeds.concat() {
         told.agrees(seed)?;
-    }
-    for (wanted, divisor, left) in WANTED {
-        for left in left.iter().flat_map(|left| [left; WITH_A_DRAW]) {
-            let draw = any_draw(divisor, *left, rng);
-            told.agrees(seed_of(draw, wanted))?;
-        }
-    }
-    for _ in 0..SEEDS {
-        told.agrees(1 + rng.below(LARGEST_SEED as usize) as u32)?;
-    }
-    for _ in 0..SEEDS_ABOVE {
-        told.agrees(LARGEST_SEED + 1 + rng.below(1 << 31) as u32)?;
     }
     told.all_came()
 }
@@ -429,9 +423,32 @@ fn seeds_with_two_values_at_limits() -> Vec<u32> {
     seeds
 }
 
+/// Seeds with each of the draws that are wanted.
+fn seeds_with_a_draw(rng: &mut Rng) -> Vec<u32> {
+    let mut seeds = Vec::new();
+    for (wanted, divisor, left) in WANTED {
+        let left = left.iter().flat_map(|left| [left; WITH_A_DRAW]);
+        let draws = left.map(|left| any_draw(divisor, *left, rng));
+        seeds.extend(draws.map(|draw| seed_of(draw, wanted)));
+    }
+    seeds
+}
+
 /// One of the draws that leave this when they are divided so.
 fn any_draw(divisor: u32, left: u32, rng: &mut Rng) -> u32 {
     let least = if left == 0 { divisor } else { left };
     let others = (LARGEST_SEED - least) / divisor;
     least + divisor * rng.below(others as usize + 1) as u32
+}
+
+/// Seeds at random.
+fn any_seeds(rng: &mut Rng) -> Vec<u32> {
+    let seeds = (0..SEEDS).map(|_| 1 + rng.below(LARGEST_SEED as usize) as u32);
+    seeds.collect()
+}
+
+/// Numbers above every seed, at random.
+fn seeds_above(rng: &mut Rng) -> Vec<u32> {
+    let seeds = (0..SEEDS_ABOVE).map(|_| LARGEST_SEED + 1 + rng.below(1 << 31) as u32);
+    seeds.collect()
 }

@@ -1,6 +1,6 @@
 //! The season report: the comparison's part on runs of outcomes, whatever their numbers are.
 
-use crate::checks::{agree, Checked, Kinds, Tally};
+use crate::checks::{agree, named, Checked, Kinds, Tally};
 use crate::ffi;
 use crate::outcomes::{any_numbers, booked_alike, highest_run_of, is_refused, numbers, run_of};
 use crate::outcomes::{show, some_outcomes, ANSWERS, KINDS_REFUSED, METHODS_OTHER};
@@ -130,14 +130,6 @@ fn full_runs_with(run: &[Outcome], report: &SeasonReport) -> Vec<&'static str> {
         report.tallies.iter().any(|t| t.quoted == highest),
     ];
     named(&FULL_RUNS_WITH, &came)
-}
-
-/// The names of those that came.
-pub fn named(names: &[&'static str], came: &[bool]) -> Vec<&'static str> {
-    let both = names.iter().zip(came);
-    both.filter(|(_, &came)| came)
-        .map(|(&name, _)| name)
-        .collect()
 }
 
 /// Whether the outcome at this place has more answers than every other search of its method, of

@@ -2,12 +2,12 @@
 //! what a season report is made of.
 
 use crate::cases;
-use crate::checks::{agree, Checked, Kinds, Tally};
+use crate::checks::{agree, named, Checked, Kinds, Tally};
 use crate::model::{self, Book, OLD, TODAY};
 use crate::old_default::{zeros, AFTER_THE_METHOD};
 use crate::outcomes::{numbers, show};
 use crate::rng::Rng;
-use crate::season::{named, report_agrees};
+use crate::season::report_agrees;
 use crate::season_model;
 use crate::sheets::{self, Text, FIELDS};
 use crate::types::{MethodTally, Opening, Outcome, Report, MOST_OUTCOMES, SLOTS};

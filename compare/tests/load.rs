@@ -227,18 +227,6 @@ fn examples() {
     assert_ne!(tried, 0);
 }
 
-/// Every load of the first 10,000 seeds has stopped, within the answers that are quoted.
-#[test]
-fn the_first_loads() {
-    for seed in 1..=10_000 {
-        let Answered { report, search } = ffi::load(seed);
-        let most = ffi::quote(&search.opening).most;
-        assert_eq!(report.kind, Report::STOP, "seed {seed}");
-        assert!(report.taken <= most, "seed {seed}: {}", report.taken);
-        assert_eq!(ffi::ask(&search), report, "seed {seed}");
-    }
-}
-
 #[test]
 fn model_and_plain_on_seeds() {
     let mut rng = Rng::new(14);

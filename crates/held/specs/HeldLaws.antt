@@ -1,21 +1,22 @@
--- The laws of held searches: the report after an accepted answer, that slots at or past the count never alter a report, that reports stay
--- within limits, that a blank is refused by every call, and what a verdict leaves. What is about the parts of a search is in crate `verdicts`.
+-- The laws of held searches: the report after an accepted answer, that slots at or past the count never alter a report, where the search over
+-- a list of values stands, that reports stay within limits, that a blank is refused by every call, and what a verdict leaves. What is about
+-- the parts of a search is in crate `verdicts`.
 -- Assumes nothing.
 use Prim.Native.Nat.{ℕ, _≤_, _<_}
 use mathlib.Core.Path.{_≡_, refl, sym, ap, ap₂, subst, _∙_}
 use mathlib.Core.Bool.{Bool, true, false, cond}
 use mathlib.Core.List.{List}
 use native.Mathlib.Omega.{arith}
-use borrow.Author.Tests.{eq-eqb, ne-eqb}
+use borrow.Author.Tests.{eq-eqb, ne-eqb, le-ltb}
 use lib.Dec.{ltb}
 use lib.IntN.{ℤ, pos}
-use lib.ListN.{length, set}
-use lib.Seq.{set-getD}
+use lib.ListN.{length, set, length-append, length-replicate}
+use lib.Seq.{take-at, set-getD}
 use Rattle.rules.specs.declared.Opening.{Opening}
 use Rattle.rules.specs.declared.Bracket.{Bracket}
 use Rattle.rules.specs.declared.Progress.{Progress}
 use Rattle.rules.specs.declared.Report.{Report}
-use Rattle.rules.specs.Rules.{highest, slots, firstOf, lowerOf, upperOf, stoppedOf, nextOf}
+use Rattle.rules.specs.Rules.{highest, slots, padded, firstOf, lowerOf, upperOf, stoppedOf, nextOf}
 use Rattle.rules.specs.Refusals.{openingRefusal, countAbove}
 use Rattle.rules.specs.RefusalsLaws.{Opened}
 use Rattle.rules.specs.Search.{isRefused, otherAt, beginOf, offerOf, progressOf, bracketReport, reportAt, reportOf}
@@ -71,6 +72,19 @@ module _ (s s' : Search) (a : Agree s s') where
       enter-report s x v h
       ∙ ap₂ (λ (o : Opening) (p : Progress). reportAt o (offerOf o p (otherAt o p x) v)) (a .opening) same-standing
       ∙ sym (enter-report s' x v h')
+
+-- ---- a search that holds a list of values, and 0 in the other slots
+
+abbrev pub holdingValues : Opening → List ℤ → Search
+holdingValues o vs = record { opening = o; count = length vs; slots = padded vs }
+
+module _ (o : Opening) (vs : List ℤ) (few : length vs ≤ slots) where
+  pub padded-full : length (padded vs) ≡ slots
+  padded-full = simp (length-append, length-replicate) (omega (arith, few))
+
+  pub standing-values : standingOf (holdingValues o vs) ≡ progressOf o vs
+  unfolding standingOf
+  standing-values = simp (le-ltb slots (length vs) few) (ap (progressOf o) (take-at vs _ (length vs) refl))
 
 -- ---- the points of every report lie within limits, and its answers are no more than the slots
 

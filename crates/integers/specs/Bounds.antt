@@ -91,7 +91,7 @@ abs-apart a (suc b) k h g =
 pub within-apart : {a b k : ℕ} → a ≤ b + k → b ≤ a + k → Within (pos a -ℤ pos b) k
 within-apart {a} {b} {k} h g = record { abs-le = abs-apart a b k h g }
 
--- their difference is within the larger's bound, and not only within the sum of the two
+-- the difference of two naturals is within the larger's bound, and not only within the sum of the two
 pub within-difference : {a b k : ℕ} → a ≤ k → b ≤ k → Within (pos a -ℤ pos b) k
 within-difference {a} {b} h g = within-apart {a = a} {b = b} (omega arith) (omega arith)
 

@@ -6,10 +6,9 @@ use mathlib.Core.Path.{_≡_, refl, sym, ap, ap₂, _∙_}
 use mathlib.Core.Bool.{Bool, true, false, cond, not}
 use mathlib.Core.List.{List, [], _∷_, _++_}
 use native.Mathlib.Omega.{arith}
-use borrow.Author.Tests.{le-ltb}
 use lib.Dec.{eqb}
 use lib.IntN.{ℤ, pos}
-use lib.ListN.{length, set, length-append, length-replicate, length-map}
+use lib.ListN.{length, length-append, length-map}
 use lib.Seq.{take-at}
 use Rattle.integers.specs.Signs.{eqZ}
 use Rattle.integers.specs.SignsLaws.{eq-eqZ}
@@ -22,10 +21,11 @@ use Rattle.rules.specs.declared.Report.{Report}
 use Rattle.rules.specs.Rules.{highest, slots, padded, firstOf, secondOf, startOf, nextOf, advanceOf}
 use Rattle.rules.specs.Refusals.{Accepted}
 use Rattle.rules.specs.RefusalsLaws.{Opened, opened, Ranged}
-use Rattle.rules.specs.Search.{isRefused, takenOf, otherAt, enteredAt, answeredAt, offerOf, takeOf, progressOf, answersOf, reportAt}
+use Rattle.rules.specs.Search.{isRefused, takenOf, otherAt, enteredAt, answeredAt, offerOf, takeOf, answersOf, reportAt}
 use Rattle.rules.specs.SearchLaws.{Sound, ahead, counts, most-slots}
 use Rattle.held.specs.Held.{valuesOf, standingOf, heldReport, withValue, triedOf, enterOf}
-use Rattle.held.specs.HeldLaws.{enter-refused, enter-accepted}
+use Rattle.held.specs.declared.Search.{Search}
+use Rattle.held.specs.HeldLaws.{holdingValues, padded-full, standing-values, enter-refused, enter-accepted}
 use Rattle.forms.specs.declared.Entries.{Entries}
 use Rattle.forms.specs.Entries.{filled, entriesOf}
 use Rattle.forms.specs.ReadingLaws.{set-padded}
@@ -71,6 +71,10 @@ map-more : (journal : List Answer) (a : Answer) → values (journal ++ (a ∷ []
 map-more [] a = refl
 map-more (x ∷ journal) a = ap (λ (vs : List ℤ). x .value ∷ vs) (map-more journal a)
 
+-- the search that holds a journal, by its values
+as-values : (o : Opening) (journal : List Answer) → holding o journal ≡ holdingValues o (values journal)
+as-values o journal = ap (λ (n : ℕ). record { opening = o; count = n; slots = padded (values journal) }) (sym (length-map journal answerValue))
+
 module _ (o : Opening) (accepted : Accepted o) where
   module _ (journal : List Answer) (kept : Kept o journal) where
     pub journal-fits : length journal ≤ slots
@@ -79,15 +83,20 @@ module _ (o : Opening) (accepted : Accepted o) where
     as-many : length (values journal) ≡ length journal
     as-many = length-map journal answerValue
 
+    values-few : length (values journal) ≤ slots
+    values-few = omega (arith, journal-fits, as-many)
+
     pub slots-full : length (padded (values journal)) ≡ slots
-    slots-full = simp (length-append, length-replicate) (omega (arith, journal-fits, as-many))
+    slots-full = padded-full o (values journal) values-few
 
     pub values-held : valuesOf (holding o journal) ≡ values journal
     values-held = take-at (values journal) _ (length journal) as-many
 
     pub standing-held : standingOf (holding o journal) ≡ stageOf journal
-    unfolding standingOf
-    standing-held = simp (le-ltb slots (length journal) journal-fits) (ap (progressOf o) values-held ∙ kept-progress o journal accepted kept)
+    standing-held =
+        ap standingOf (as-values o journal)
+        ∙ standing-values o (values journal) values-few
+        ∙ kept-progress o journal accepted kept
 
     taken-stage : takenOf (stageOf journal) ≡ length journal
     taken-stage = go journal refl
@@ -112,16 +121,18 @@ module _ (o : Opening) (accepted : Accepted o) where
         ∙ offer-stage o journal (otherAt o (stageOf journal) (a .point)) (a .value)
         ∙ ap₂ (λ (n i : ℕ). cond (eqb n 0) (enteredAt o (stageOf journal) (a .value)) (Progress.Refused n i)) (sym (refusal-stage o journal a)) taken-stage
 
+-- one value more, in the next slot
+pub values-more : (o : Opening) (vs : List ℤ) (v : ℤ) → length vs < slots → holdingValues o (vs ++ (v ∷ [])) ≡ withValue (holdingValues o vs) v
+values-more o vs v h =
+    ap₂ (λ (i : ℕ) (l : List ℤ). record { opening = o; count = i; slots = l }) (length-append vs (v ∷ [])) (sym (set-padded vs v h))
+
 search-more : (o : Opening) (journal : List Answer) (a : Answer) → length journal < slots
     → holding o (journal ++ (a ∷ [])) ≡ withValue (holding o journal) (a .value)
 search-more o journal a h =
-    let n : length (values journal) ≡ length journal = length-map journal answerValue in
-    let c : length (journal ++ (a ∷ [])) ≡ length journal + 1 = length-append journal (a ∷ []) in
-    let s : padded (values (journal ++ (a ∷ []))) ≡ set (padded (values journal)) (length journal) (a .value) =
-    ap padded (map-more journal a)
-    ∙ sym (set-padded (values journal) (a .value) (omega arith))
-    ∙ ap (λ (i : ℕ). set (padded (values journal)) i (a .value)) n in
-    ap₂ (λ (i : ℕ) (l : List ℤ). record { opening = o; count = i; slots = l }) c s
+    as-values o (journal ++ (a ∷ []))
+    ∙ ap (holdingValues o) (map-more journal a)
+    ∙ values-more o (values journal) (a .value) (omega (arith, length-map journal answerValue))
+    ∙ sym (ap (λ (s : Search). withValue s (a .value)) (as-values o journal))
 
 -- ---- one call
 
@@ -172,7 +183,7 @@ called-is : (o : Opening) (p : Progress) (a : Answer) → otherAt o p (a .point)
 unfolding takeOf
 called-is o p a e = ap (λ (b : Bool). offerOf o p b (a .value)) e
 
-same-point : (x : ℤ) (n : ℕ) → x ≡ pos n → not (eqZ x (pos n)) ≡ false
+pub same-point : (x : ℤ) (n : ℕ) → x ≡ pos n → not (eqZ x (pos n)) ≡ false
 same-point x n e = ap not (eq-eqZ x (pos n) e)
 
 -- each answer of the journal, tried as a sheet's answers are

@@ -3,7 +3,7 @@ ghost use mathlib.Core.Path.{_≡_};
 ghost use Prim.Native.Nat.{_≤_};
 ghost use lib.IntN.{natAbs};
 ghost use Rattle.rules.specs.Rules.{highest, largestValue};
-ghost use Rattle.loading.specs.Loading.{nextDraw, pointFrom, secondFrom, openingFrom, valueFrom, valueAt, drawnOf, heldPart, isSeed, loadOf};
+ghost use Rattle.loading.specs.Loading.{nextDraw, drawnPoint, drawnSecond, drawnOpening, drawnValue, placedValue, valuesDrawn, heldPart, isSeed, loadOf};
 ghost use Rattle.loading.specs.Claims.{EveryLoad};
 use held::Entered;
 use held::Search;
@@ -18,18 +18,18 @@ pub fn next_draw(last: u32) -> u32
 }
 
 // The point that a draw gives.
-fn point_from(draw: u32) -> u32
-    ensures { λ r. ⌜ r ≡ pointFrom draw ⌝ }
+fn drawn_point(draw: u32) -> u32
+    ensures { λ r. ⌜ r ≡ drawnPoint draw ⌝ }
 {
     draw % loading::POINTS
 }
 
 // The second end, which is another point than the first.
-fn second_from(x0: u32, draw: u32) -> u32
+fn drawn_second(x0: u32, draw: u32) -> u32
     requires { ⌜ x0 ≤ highest ⌝ }
-    ensures { λ r. ⌜ r ≡ secondFrom x0 draw ⌝ }
+    ensures { λ r. ⌜ r ≡ drawnSecond x0 draw ⌝ }
 {
-    let point = point_from(draw);
+    let point = drawn_point(draw);
     if point == x0 {
         return (x0 + 1) % loading::POINTS;
     }
@@ -37,11 +37,11 @@ fn second_from(x0: u32, draw: u32) -> u32
 }
 
 // The opening that four draws give.
-fn opening_from(a: u32, b: u32, c: u32, d: u32) -> Opening
-    ensures { λ r. ⌜ r ≡ openingFrom a b c d ⌝ }
+fn drawn_opening(a: u32, b: u32, c: u32, d: u32) -> Opening
+    ensures { λ r. ⌜ r ≡ drawnOpening a b c d ⌝ }
 {
-    let x0 = point_from(a);
-    let x1 = second_from(x0, b);
+    let x0 = drawn_point(a);
+    let x1 = drawn_second(x0, b);
     let first = x0 as i32;
     let second = x1 as i32;
     let tolerance = (1 + c % loading::TOLERANCES) as i32;
@@ -56,43 +56,43 @@ fn opening_from(a: u32, b: u32, c: u32, d: u32) -> Opening
 }
 
 // The value that a draw gives.
-fn value_from(draw: u32) -> i32
-    ensures { λ r. ⌜ r ≡ valueFrom draw ⌝ }
+fn drawn_value(draw: u32) -> i32
+    ensures { λ r. ⌜ r ≡ drawnValue draw ⌝ }
 {
     (draw % loading::VALUES) as i32 - loading::ON_TARGET
 }
 
-// The value at a place, counted from 0: a second one of the first's strict sign is negated.
-fn value_at(place: u32, first: i32, value: i32) -> i32
-    requires { ⌜ natAbs value ≤ largestValue ⌝ }
-    ensures { λ r. ⌜ r ≡ valueAt place first value ⌝ }
+// The value v at a place, counted from 0, where the first is u: a second one of the first's strict sign is negated.
+fn placed_value(place: u32, u: i32, v: i32) -> i32
+    requires { ⌜ natAbs v ≤ largestValue ⌝ }
+    ensures { λ r. ⌜ r ≡ placedValue place u v ⌝ }
 {
     if place != 1 {
-        return value;
+        return v;
     }
-    if refusals::same_side(first, value) {
-        return 0 - value;
+    if refusals::same_side(u, v) {
+        return 0 - v;
     }
-    value
+    v
 }
 
 // The load of a seed: a fresh search, into which values are entered until it calls for no point.
-fn made(seed: u32) -> Entered
-    ensures { λ r. ⌜ r ≡ heldPart seed (drawnOf seed) ⌝ }
+fn draw_load(seed: u32) -> Entered
+    ensures { λ r. ⌜ r ≡ heldPart seed (valuesDrawn seed) ⌝ }
 {
     let a = next_draw(seed);
     let b = next_draw(a);
     let c = next_draw(b);
     let d = next_draw(c);
     let mut draw = next_draw(d);
-    let first = value_from(draw);
-    let mut load = Search::fresh(opening_from(a, b, c, d));
+    let first_value = drawn_value(draw);
+    let mut load = Search::fresh(drawn_opening(a, b, c, d));
     loop {
         let report = load.report;
         match report {
             Report::Next { point, taken } => {
                 let setting = point as i32;
-                let value = value_at(taken, first, value_from(draw));
+                let value = placed_value(taken, first_value, drawn_value(draw));
                 let search = load.search;
                 load = search.enter(setting, value);
                 draw = next_draw(draw);
@@ -124,7 +124,7 @@ pub fn load(seed: u32) -> Entered
     ensures { λ _. ⌜ EveryLoad ⌝ }
 {
     if is_seed(seed) {
-        return made(seed);
+        return draw_load(seed);
     }
     Entered {
         report: Report::Refused {

@@ -11,7 +11,7 @@ use Rattle.rules.specs.Search.{isRefusal, tOf, mostOf, quoteOf}
 use Rattle.held.specs.Held.{valuesOf, heldReport, openOf, enterOf}
 use Rattle.outcomes.specs.Sheet.{sheetOf}
 use Rattle.clean_sheets.specs.Clean.{cleanOf}
-use Rattle.loading.specs.Loading.{drawOf, openingOf, valueOf, valuesUpTo, stoppedAfter, drawnOf, partOf, heldPart, isSeed, loadOf}
+use Rattle.loading.specs.Loading.{drawOf, loadOpening, loadValue, loadValues, stoppedAfter, valuesDrawn, loadPart, heldPart, isSeed, loadOf}
 
 -- ---- words of the claims
 
@@ -23,29 +23,29 @@ pub record Stopped (n : ℕ) (r : Report) : Type 0 where
   pub told : r ≡ Report.Stop lower upper better n
 
 -- after n values a point is called for, and the next value, entered there, is accepted and leads to the first n + 1
-pub record Goes (seed n : ℕ) : Type 0 where
+pub record GoesOn (seed n : ℕ) : Type 0 where
   pub point : ℕ
-  pub called : heldReport (partOf seed n) ≡ Report.Next point n
-  pub entered : enterOf (partOf seed n) (pos point) (valueOf seed n) ≡ heldPart seed (suc n)
+  pub called : heldReport (loadPart seed n) ≡ Report.Next point n
+  pub entered : enterOf (loadPart seed n) (pos point) (loadValue seed n) ≡ heldPart seed (suc n)
 
 -- ---- of every load
 
 pub record Load (seed : ℕ) : Type 0 where
   -- values are drawn until the search stops: their number is the least after which it has stopped
-  pub until : Least (λ n. stoppedAfter seed n ≡ true) (drawnOf seed)
+  pub until : Least (λ n. stoppedAfter seed n ≡ true) (valuesDrawn seed)
   -- the load is that held search: it holds the opening and these values
-  pub opening : loadOf seed .search .opening ≡ openingOf seed
-  pub count : loadOf seed .search .count ≡ drawnOf seed
-  pub values : valuesOf (loadOf seed .search) ≡ valuesUpTo seed (drawnOf seed)
+  pub opening : loadOf seed .search .opening ≡ loadOpening seed
+  pub count : loadOf seed .search .count ≡ valuesDrawn seed
+  pub values : valuesOf (loadOf seed .search) ≡ loadValues seed (valuesDrawn seed)
   -- it is what a host comes to that opens a fresh search, and enters each value at the point called for: every answer is accepted
-  pub fresh : openOf (openingOf seed) ≡ heldPart seed 0
-  pub goes : (n : ℕ) → n < drawnOf seed → Goes seed n
-  pub ends : loadOf seed ≡ heldPart seed (drawnOf seed)
+  pub fresh : openOf (loadOpening seed) ≡ heldPart seed 0
+  pub goes : (n : ℕ) → n < valuesDrawn seed → GoesOn seed n
+  pub ends : loadOf seed ≡ heldPart seed (valuesDrawn seed)
   -- it is accepted, and has stopped
-  pub stopped : Stopped (drawnOf seed) (loadOf seed .report)
+  pub stopped : Stopped (valuesDrawn seed) (loadOf seed .report)
   -- within the quoted number of answers
-  pub quoted : quoteOf (openingOf seed) ≡ Quote.Quoted (tOf (openingOf seed)) (mostOf (openingOf seed))
-  pub within : drawnOf seed ≤ mostOf (openingOf seed)
+  pub quoted : quoteOf (loadOpening seed) ≡ Quote.Quoted (tOf (loadOpening seed)) (mostOf (loadOpening seed))
+  pub within : valuesDrawn seed ≤ mostOf (loadOpening seed)
   -- its clean sheet is read as the load
   pub sheet : sheetOf (cleanOf (loadOf seed .search)) ≡ loadOf seed
 

@@ -17,7 +17,7 @@ use Rattle.held.specs.Held.{valuesOf, heldReport}
 use Rattle.outcomes.specs.Sheet.{sheetOf}
 use Rattle.clean_sheets.specs.Clean.{cleanOf}
 use Rattle.clean_sheets.specs.ClaimsHold.{clean-sheets}
-use Rattle.loading.specs.Loading.{openingOf, valuesUpTo, drawnOf, partOf, heldPart, isSeed, loadOf}
+use Rattle.loading.specs.Loading.{loadOpening, loadValues, valuesDrawn, loadPart, heldPart, isSeed, loadOf}
 use Rattle.loading.specs.Claims.{Stopped, Load, EveryLoad}
 use Rattle.loading.specs.DrawLaws.{seed-is, is-seed, draws, accepted}
 use Rattle.loading.specs.PartLaws.{values-length, drawn, most-fits, going-drawn, slots-full, fresh-part, part-stopped, goes}
@@ -25,28 +25,28 @@ use Rattle.loading.specs.PartLaws.{values-length, drawn, most-fits, goin
 -- ---- of a seed in range
 
 module _ (seed : ℕ) (is : isSeed seed ≡ true) where
-  load-is : loadOf seed ≡ heldPart seed (drawnOf seed)
+  load-is : loadOf seed ≡ heldPart seed (valuesDrawn seed)
   unfolding loadOf
   load-is = simp is
 
-  few : drawnOf seed ≤ slots
+  few : valuesDrawn seed ≤ slots
   few = omega (arith, drawn seed .1, most-fits seed)
 
-  has-stopped : Stopped (drawnOf seed) (heldReport (partOf seed (drawnOf seed)))
-  has-stopped = part-stopped seed (drawnOf seed) few (going-drawn seed) (drawn seed .0 .holds)
+  has-stopped : Stopped (valuesDrawn seed) (heldReport (loadPart seed (valuesDrawn seed)))
+  has-stopped = part-stopped seed (valuesDrawn seed) few (going-drawn seed) (drawn seed .0 .holds)
 
-  not-refused : isRefusal (heldReport (partOf seed (drawnOf seed))) ≡ false
+  not-refused : isRefusal (heldReport (loadPart seed (valuesDrawn seed))) ≡ false
   not-refused = ap isRefusal (has-stopped .told)
 
-  values-held : valuesOf (partOf seed (drawnOf seed)) ≡ valuesUpTo seed (drawnOf seed)
-  values-held = take-at (valuesUpTo seed (drawnOf seed)) _ _ refl
+  values-held : valuesOf (loadPart seed (valuesDrawn seed)) ≡ loadValues seed (valuesDrawn seed)
+  values-held = take-at (loadValues seed (valuesDrawn seed)) _ _ refl
 
-  read-back : sheetOf (cleanOf (partOf seed (drawnOf seed))) ≡ heldPart seed (drawnOf seed)
+  read-back : sheetOf (cleanOf (loadPart seed (valuesDrawn seed))) ≡ heldPart seed (valuesDrawn seed)
   read-back =
-      clean-sheets (partOf seed (drawnOf seed)) (record { accepted = not-refused; full = slots-full seed (drawnOf seed) few }) .restored
+      clean-sheets (loadPart seed (valuesDrawn seed)) (record { accepted = not-refused; full = slots-full seed (valuesDrawn seed) few }) .restored
       ∙ ap (λ (vs : List ℤ). record {
-        report = heldReport (partOf seed (drawnOf seed));
-        search = record { opening = openingOf seed; count = length (valuesUpTo seed (drawnOf seed)); slots = padded vs };
+        report = heldReport (loadPart seed (valuesDrawn seed));
+        search = record { opening = loadOpening seed; count = length (loadValues seed (valuesDrawn seed)); slots = padded vs };
       }) values-held
 
   load : Load seed
@@ -55,7 +55,7 @@ module _ (seed : ℕ) (is : isSeed seed ≡ true) where
       record {
         until = drawn seed .0;
         opening = ap (λ (e : Entered). e .search .opening) load-is;
-        count = ap (λ (e : Entered). e .search .count) load-is ∙ values-length seed (drawnOf seed);
+        count = ap (λ (e : Entered). e .search .count) load-is ∙ values-length seed (valuesDrawn seed);
         values = ap (λ (e : Entered). valuesOf (e .search)) load-is ∙ values-held;
         fresh = fresh-part seed;
         goes = λ n h. goes seed n (λ m l. going-drawn seed m (omega arith)) (going-drawn seed n h);
@@ -67,7 +67,7 @@ module _ (seed : ℕ) (is : isSeed seed ≡ true) where
               better = has-stopped .better;
               told = ap (λ (e : Entered). e .report) load-is ∙ has-stopped .told;
             };
-        quoted = simp (eq-eqb (openingRefusal (openingOf seed)) 0 (accepted seed .accepted));
+        quoted = simp (eq-eqb (openingRefusal (loadOpening seed)) 0 (accepted seed .accepted));
         within = drawn seed .1;
         sheet = ap (λ (e : Entered). sheetOf (cleanOf (e .search))) load-is ∙ read-back ∙ sym load-is;
       }

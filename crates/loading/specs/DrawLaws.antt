@@ -12,7 +12,9 @@ use Rattle.integers.specs.SignsLaws.{never, ne-eqZ}
 use Rattle.integers.specs.Bounds.{Within, within-neg, within-apart}
 use Rattle.rules.specs.Rules.{highest, largestValue}
 use Rattle.rules.specs.Refusals.{openingRefusal, outside, sameSide, Accepted}
-use Rattle.loading.specs.Loading.{nextDraw, drawOf, pointFrom, secondFrom, openingFrom, openingOf, valueFrom, valueAt, valueOf, largestSeed, isSeed}
+use Rattle.forms.specs.NumberLaws.{both}
+use Rattle.loading.specs.Loading.{nextDraw, drawOf, drawnPoint, drawnSecond, drawnOpening, loadOpening}
+use Rattle.loading.specs.Loading.{drawnValue, placedValue, loadValue, largestSeed, isSeed}
 
 -- ---- the draws stay from 1 to 2,147,483,646
 
@@ -20,12 +22,8 @@ pub record Seed (d : ℕ) : Type 0 where
   pub least : 1 ≤ d
   pub most : d ≤ largestSeed
 
-and-true : (a b : Bool) → a && b ≡ true → (a ≡ true) × (b ≡ true)
-and-true true b e = (refl, e)
-and-true false b e = never (sym e)
-
 pub seed-is : (d : ℕ) → isSeed d ≡ true → Seed d
-seed-is d e = let h = and-true (leb 1 d) (leb d largestSeed) e in record { least = leb-true 1 d (h .0); most = leb-true d largestSeed (h .1) }
+seed-is d e = let h = both (leb 1 d) (leb d largestSeed) e in record { least = leb-true 1 d (h .0); most = leb-true d largestSeed (h .1) }
 
 pub is-seed : (d : ℕ) → Seed d → isSeed d ≡ true
 is-seed d h = simp (le-leb 1 d (h .least), le-leb d largestSeed (h .most))
@@ -56,34 +54,34 @@ draws seed (suc n) h = next-draw (drawOf seed n) (draws seed n h)
 
 -- ---- the opening is accepted
 
-pub point-most : (d : ℕ) → pointFrom d ≤ highest
-unfolding pointFrom
+pub point-most : (d : ℕ) → drawnPoint d ≤ highest
+unfolding drawnPoint
 point-most d = omega (arith, mod-lt d {m = 60001} (omega arith))
 
-pub second-most : (x d : ℕ) → secondFrom x d ≤ highest
-unfolding secondFrom
-second-most x d = go (eqb (pointFrom d) x)
+pub second-most : (x d : ℕ) → drawnSecond x d ≤ highest
+unfolding drawnSecond
+second-most x d = go (eqb (drawnPoint d) x)
   where
-    go : (b : Bool) → cond b ((x + 1) % 60001) (pointFrom d) ≤ highest
+    go : (b : Bool) → cond b ((x + 1) % 60001) (drawnPoint d) ≤ highest
     go true = omega (arith, mod-lt (x + 1) {m = 60001} (omega arith))
     go false = point-most d
 
-second-other : (x d : ℕ) → x ≤ highest → x ≡ secondFrom x d → ⊥
-unfolding secondFrom
-second-other x d h = go (eqb (pointFrom d) x) refl
+second-other : (x d : ℕ) → x ≤ highest → x ≡ drawnSecond x d → ⊥
+unfolding drawnSecond
+second-other x d h = go (eqb (drawnPoint d) x) refl
   where
-    go : (b : Bool) → eqb (pointFrom d) x ≡ b → x ≡ cond b ((x + 1) % 60001) (pointFrom d) → ⊥
+    go : (b : Bool) → eqb (drawnPoint d) x ≡ b → x ≡ cond b ((x + 1) % 60001) (drawnPoint d) → ⊥
     go true e f = omega (arith, div-add-mod' (x + 1) 60001)
-    go false e f = never (sym (eq-eqb (pointFrom d) x (sym f)) ∙ e)
+    go false e f = never (sym (eq-eqb (drawnPoint d) x (sym f)) ∙ e)
 
 inside : (low high n : ℕ) → low ≤ n → n ≤ high → outside low high (pos n) ≡ false
 inside low high n h k = simp (le-ltb n low h, le-ltb high n k)
 
-opening-accepted : (a b c d : ℕ) → Accepted (openingFrom a b c d)
-unfolding openingFrom openingRefusal
+opening-accepted : (a b c d : ℕ) → Accepted (drawnOpening a b c d)
+unfolding drawnOpening openingRefusal
 opening-accepted a b c d =
-    let x = pointFrom a in
-    let y = secondFrom x b in
+    let x = drawnPoint a in
+    let y = drawnSecond x b in
     record {
       accepted =
           simp (
@@ -95,22 +93,22 @@ opening-accepted a b c d =
           );
     }
 
-pub accepted : (seed : ℕ) → Accepted (openingOf seed)
-unfolding openingOf
+pub accepted : (seed : ℕ) → Accepted (loadOpening seed)
+unfolding loadOpening
 accepted seed = opening-accepted (drawOf seed 1) (drawOf seed 2) (drawOf seed 3) (drawOf seed 4)
 
 -- ---- the values are in range, and the second is not on the first one's side
 
-pub value-within : (d : ℕ) → Within (valueFrom d) largestValue
-unfolding valueFrom
+pub value-within : (d : ℕ) → Within (drawnValue d) largestValue
+unfolding drawnValue
 value-within d = within-apart {a = d % 20001} {b = 10000} (omega (arith, mod-lt d {m = 20001} (omega arith))) (omega arith)
 
-pub ranged : (seed i : ℕ) → natAbs (valueOf seed i) ≤ largestValue
-unfolding valueOf valueAt
-ranged seed i = go (eqb i 1 && sameSide (valueFrom (drawOf seed 5)) v)
+pub value-ranged : (seed i : ℕ) → natAbs (loadValue seed i) ≤ largestValue
+unfolding loadValue placedValue
+value-ranged seed i = go (eqb i 1 && sameSide (drawnValue (drawOf seed 5)) v)
   where
     v : ℤ
-    v = valueFrom (drawOf seed (5 + i))
+    v = drawnValue (drawOf seed (5 + i))
 
     go : (b : Bool) → natAbs (cond b (negℤ v) v) ≤ largestValue
     go true = within-neg (value-within (drawOf seed (5 + i))) .abs-le
@@ -126,15 +124,15 @@ turned-crosses (pos (suc u)) (negsuc v) e = never (sym e ∙ simp (lt-ltb 0 (suc
 turned-crosses (negsuc u) (pos v) e = never (sym e ∙ le-ltb v 0 (omega arith))
 turned-crosses (negsuc u) (negsuc v) e = le-ltb (suc v) 0 (omega arith)
 
-pub crosses : (seed : ℕ) → sameSide (valueOf seed 0) (valueOf seed 1) ≡ false
-unfolding valueOf valueAt
-crosses seed = go (sameSide u v) refl
+pub second-crosses : (seed : ℕ) → sameSide (loadValue seed 0) (loadValue seed 1) ≡ false
+unfolding loadValue placedValue
+second-crosses seed = go (sameSide u v) refl
   where
     u : ℤ
-    u = valueFrom (drawOf seed 5)
+    u = drawnValue (drawOf seed 5)
 
     v : ℤ
-    v = valueFrom (drawOf seed 6)
+    v = drawnValue (drawOf seed 6)
 
     go : (b : Bool) → sameSide u v ≡ b → sameSide u (cond b (negℤ v) v) ≡ false
     go true e = turned-crosses u v e

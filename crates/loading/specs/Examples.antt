@@ -14,8 +14,8 @@ use Rattle.rules.specs.Refusals.{openingRefusal, answerRefusal, sameSide}
 use Rattle.rules.specs.Search.{beginOf, offerOf, takeOf, progressOf, bracketReport, reportAt, turnsOf}
 use Rattle.held.specs.declared.Entered.{Entered}
 use Rattle.held.specs.Held.{blank, standingOf, heldReport}
-use Rattle.loading.specs.Loading.{nextDraw, drawOf, pointFrom, secondFrom, openingFrom, openingOf, valueFrom, valueAt, valueOf, valuesUpTo}
-use Rattle.loading.specs.Loading.{stoppedAfter, firstBelow, drawnOf, loadOf}
+use Rattle.loading.specs.Loading.{nextDraw, drawOf, drawnPoint, drawnSecond, drawnOpening, loadOpening, drawnValue, placedValue, loadValue, loadValues}
+use Rattle.loading.specs.Loading.{stoppedAfter, firstBelow, valuesDrawn, loadOf}
 
 -- ---- draws
 
@@ -39,35 +39,35 @@ abbrev opening : (method first second tolerance : ℕ) → Opening
 opening m x y t = record { method = pos m; first = pos x; second = pos y; tolerance = pos t; share = pos 0 }
 
 -- four draws, and the opening that they give
-record Opened : Type 0 where
+record Drawn : Type 0 where
   a : ℕ
   b : ℕ
   c : ℕ
   d : ℕ
   is : Opening
 
-abbrev opened : (a b c d : ℕ) → Opening → Opened
-opened a b c d o = record { a = a; b = b; c = c; d = d; is = o }
+abbrev drawn : (a b c d : ℕ) → Opening → Drawn
+drawn a b c d o = record { a = a; b = b; c = c; d = d; is = o }
 
 -- the least and the largest of each; the highest point is drawn; x1 equal to x0 is moved, past the highest point to 0
-abbrev openings : List Opened
+abbrev openings : List Drawn
 openings =
-    opened 0 60000 0 0 (opening 1 0 60000 1)
-    ∷ opened 60000 60001 4999 1 (opening 2 60000 0 5000)
-    ∷ opened 60001 60002 5000 2 (opening 1 0 1 1)
-    ∷ opened 7 7 24 3 (opening 2 7 8 25)
-    ∷ opened 60000 60000 24 4 (opening 1 60000 0 25)
-    ∷ opened 60008 7 24 5 (opening 2 7 8 25)
+    drawn 0 60000 0 0 (opening 1 0 60000 1)
+    ∷ drawn 60000 60001 4999 1 (opening 2 60000 0 5000)
+    ∷ drawn 60001 60002 5000 2 (opening 1 0 1 1)
+    ∷ drawn 7 7 24 3 (opening 2 7 8 25)
+    ∷ drawn 60000 60000 24 4 (opening 1 60000 0 25)
+    ∷ drawn 60008 7 24 5 (opening 2 7 8 25)
     ∷ []
 
-openings-work : map (λ (x : Opened). openingFrom (x .a) (x .b) (x .c) (x .d)) openings ≡ map (λ (x : Opened). x .is) openings
-unfolding openingFrom pointFrom secondFrom
+openings-work : map (λ (x : Drawn). drawnOpening (x .a) (x .b) (x .c) (x .d)) openings ≡ map (λ (x : Drawn). x .is) openings
+unfolding drawnOpening drawnPoint drawnSecond
 openings-work = refl
 
 -- ---- values
 
-values-drawn : map valueFrom (0 ∷ 10000 ∷ 20000 ∷ 20001 ∷ 2147483646 ∷ []) ≡ negℤ (pos 10000) ∷ pos 0 ∷ pos 10000 ∷ negℤ (pos 10000) ∷ pos 6278 ∷ []
-unfolding valueFrom
+values-drawn : map drawnValue (0 ∷ 10000 ∷ 20000 ∷ 20001 ∷ 2147483646 ∷ []) ≡ negℤ (pos 10000) ∷ pos 0 ∷ pos 10000 ∷ negℤ (pos 10000) ∷ pos 6278 ∷ []
+unfolding drawnValue
 values-drawn = refl
 
 -- a first value, the value drawn at a place, and what it becomes
@@ -95,8 +95,8 @@ places =
     ∷ valued 3 (negℤ (pos 5)) (negℤ (pos 7)) (negℤ (pos 7))
     ∷ []
 
-places-work : map (λ (x : Valued). valueAt (x .place) (x .first) (x .drawn)) places ≡ map (λ (x : Valued). x .is) places
-unfolding valueAt sameSide
+places-work : map (λ (x : Valued). placedValue (x .place) (x .first) (x .drawn)) places ≡ map (λ (x : Valued). x .is) places
+unfolding placedValue sameSide
 places-work = refl
 
 -- ---- loads
@@ -129,7 +129,7 @@ loads =
     ∷ []
 
 loads-work : map (λ (x : Example). loadOf (x .seed)) loads ≡ map (λ (x : Example). x .load) loads
-unfolding nextDraw drawOf pointFrom secondFrom openingFrom openingOf valueFrom valueAt valueOf valuesUpTo stoppedAfter firstBelow drawnOf loadOf
+unfolding nextDraw drawOf drawnPoint drawnSecond drawnOpening loadOpening drawnValue placedValue loadValue loadValues stoppedAfter firstBelow valuesDrawn loadOf
     heldReport standingOf progressOf beginOf takeOf offerOf reportAt bracketReport openingRefusal answerRefusal sameSide turnsOf digits halvings methodOf
     toleranceAt startOf stoppedOf forwardOf displacementOf linearOf crossOf rationalOf doubledOf opposed partnerOf streakOf renewedOf advanceOf stepOf reachOf
     offsetOf nextOf

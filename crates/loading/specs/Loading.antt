@@ -29,50 +29,50 @@ drawOf seed (suc n) = nextDraw (drawOf seed n)
 -- ---- the opening, from the first four
 
 -- x0: draw modulo 60,001
-unfoldable pub pointFrom : ℕ → ℕ
-pointFrom draw = draw % 60001
+unfoldable pub drawnPoint : ℕ → ℕ
+drawnPoint draw = draw % 60001
 
 -- x1: the same, or x0 + 1 modulo 60,001 if equal to x0
-unfoldable pub secondFrom : (x0 draw : ℕ) → ℕ
-secondFrom x0 draw = cond (eqb (pointFrom draw) x0) ((x0 + 1) % 60001) (pointFrom draw)
+unfoldable pub drawnSecond : (x0 draw : ℕ) → ℕ
+drawnSecond x0 draw = cond (eqb (drawnPoint draw) x0) ((x0 + 1) % 60001) (drawnPoint draw)
 
 -- x0, x1, τ and method; p is 0
-unfoldable pub openingFrom : (a b c d : ℕ) → Opening
-openingFrom a b c d =
+unfoldable pub drawnOpening : (a b c d : ℕ) → Opening
+drawnOpening a b c d =
     record {
       method = pos (1 + d % 2);
-      first = pos (pointFrom a);
-      second = pos (secondFrom (pointFrom a) b);
+      first = pos (drawnPoint a);
+      second = pos (drawnSecond (drawnPoint a) b);
       tolerance = pos (1 + c % 5000);
       share = pos 0;
     }
 
-unfoldable pub openingOf : (seed : ℕ) → Opening
-openingOf seed = openingFrom (drawOf seed 1) (drawOf seed 2) (drawOf seed 3) (drawOf seed 4)
+unfoldable pub loadOpening : (seed : ℕ) → Opening
+loadOpening seed = drawnOpening (drawOf seed 1) (drawOf seed 2) (drawOf seed 3) (drawOf seed 4)
 
 -- ---- the values, from the fifth on
 
 -- draw modulo 20,001, less 10,000
-unfoldable pub valueFrom : ℕ → ℤ
-valueFrom draw = pos (draw % 20001) -ℤ pos 10000
+unfoldable pub drawnValue : ℕ → ℤ
+drawnValue draw = pos (draw % 20001) -ℤ pos 10000
 
--- the value at place i, counted from 0: a second one of the first's strict sign is negated
-unfoldable pub valueAt : (i : ℕ) (first v : ℤ) → ℤ
-valueAt i first v = cond (eqb i 1 && sameSide first v) (negℤ v) v
+-- the value v at place i, counted from 0, where the first is u: a second one of the first's strict sign is negated
+unfoldable pub placedValue : (i : ℕ) (u v : ℤ) → ℤ
+placedValue i u v = cond (eqb i 1 && sameSide u v) (negℤ v) v
 
-unfoldable pub valueOf : (seed i : ℕ) → ℤ
-valueOf seed i = valueAt i (valueFrom (drawOf seed 5)) (valueFrom (drawOf seed (5 + i)))
+unfoldable pub loadValue : (seed i : ℕ) → ℤ
+loadValue seed i = placedValue i (drawnValue (drawOf seed 5)) (drawnValue (drawOf seed (5 + i)))
 
 -- the first n of them
-unfoldable pub valuesUpTo : (seed n : ℕ) → List ℤ
-valuesUpTo seed zero = []
-valuesUpTo seed (suc n) = valuesUpTo seed n ++ (valueOf seed n ∷ [])
+unfoldable pub loadValues : (seed n : ℕ) → List ℤ
+loadValues seed zero = []
+loadValues seed (suc n) = loadValues seed n ++ (loadValue seed n ∷ [])
 
 -- ---- values are drawn until the search stops
 
 -- whether the search over the first n values has stopped
 unfoldable pub stoppedAfter : (seed n : ℕ) → Bool
-stoppedAfter seed n = stoppedAt (openingOf seed) (progressOf (openingOf seed) (valuesUpTo seed n))
+stoppedAfter seed n = stoppedAt (loadOpening seed) (progressOf (loadOpening seed) (loadValues seed n))
 
 -- the first of 0, 1, 2 .. that has a property, if one below `most` has it
 unfoldable pub firstBelow : (most : ℕ) (has : ℕ → Bool) → ℕ
@@ -81,18 +81,18 @@ firstBelow (suc most) has = cond (has zero) zero (suc (firstBelow most (λ n. ha
 
 -- how many values are drawn. Where the looking ends need not be believed: `until` in Claims says that this is the least number after which the
 -- search has stopped
-unfoldable pub drawnOf : (seed : ℕ) → ℕ
-drawnOf seed = firstBelow (mostOf (openingOf seed)) (stoppedAfter seed)
+unfoldable pub valuesDrawn : (seed : ℕ) → ℕ
+valuesDrawn seed = firstBelow (mostOf (loadOpening seed)) (stoppedAfter seed)
 
 -- ---- the load
 
 -- the held search of the opening and the first n values
-abbrev pub partOf : (seed n : ℕ) → Search
-partOf seed n = record { opening = openingOf seed; count = length (valuesUpTo seed n); slots = padded (valuesUpTo seed n) }
+abbrev pub loadPart : (seed n : ℕ) → Search
+loadPart seed n = record { opening = loadOpening seed; count = length (loadValues seed n); slots = padded (loadValues seed n) }
 
 -- with its report
 abbrev pub heldPart : (seed n : ℕ) → Entered
-heldPart seed n = record { report = heldReport (partOf seed n); search = partOf seed n }
+heldPart seed n = record { report = heldReport (loadPart seed n); search = loadPart seed n }
 
 abbrev pub largestSeed : ℕ
 largestSeed = 2147483646
@@ -106,4 +106,4 @@ isSeed seed = leb 1 seed && leb seed largestSeed
 
 -- the held search of all values drawn, or the refusal and beside it a blank
 unfoldable pub loadOf : (seed : ℕ) → Entered
-loadOf seed = cond (isSeed seed) (heldPart seed (drawnOf seed)) (record { report = Report.Refused seedOutOfRange 0; search = blank })
+loadOf seed = cond (isSeed seed) (heldPart seed (valuesDrawn seed)) (record { report = Report.Refused seedOutOfRange 0; search = blank })

@@ -2,17 +2,16 @@
 -- values are drawn, and that each value is entered at the point called for.
 -- Assumes nothing.
 use Prim.Native.Nat.{ℕ, zero, suc, _≤_, _<_, zero-le}
-use mathlib.Core.Path.{_≡_, refl, sym, ap, ap₂, subst, _∙_}
+use mathlib.Core.Path.{_≡_, refl, sym, ap, subst, _∙_}
 use mathlib.Core.Bool.{Bool, true, false, cond, not}
-use mathlib.Core.List.{List, [], _∷_}
+use mathlib.Core.List.{[], _∷_}
 use native.Mathlib.Omega.{arith}
-use borrow.Author.Tests.{eq-eqb, ltb-true, ltb-false, le-ltb}
+use borrow.Author.Tests.{eq-eqb, ltb-true, ltb-false}
 use lib.Dec.{ltb}
-use lib.IntN.{ℤ, pos}
-use lib.ListN.{length, length-append, length-replicate}
-use lib.Seq.{take-at}
+use lib.IntN.{pos}
+use lib.ListN.{length, length-append}
 use Rattle.integers.specs.Digits.{Least}
-use Rattle.integers.specs.SignsLaws.{never, eq-eqZ}
+use Rattle.integers.specs.SignsLaws.{never}
 use Rattle.rules.specs.declared.Opening.{Opening}
 use Rattle.rules.specs.declared.Bracket.{Bracket}
 use Rattle.rules.specs.declared.Progress.{Progress}
@@ -23,14 +22,14 @@ use Rattle.rules.specs.RefusalsLaws.{opened}
 use Rattle.rules.specs.Search.{isRefused, stoppedAt, otherAt, offerOf, takeOf, progressOf, bracketReport, reportAt, reportOf, mostOf}
 use Rattle.rules.specs.SearchLaws.{CountedAt, counts, before-stop, progress-more, most-slots}
 use Rattle.held.specs.Held.{reopenOf, openOf, standingOf, heldReport, withValue, triedOf}
-use Rattle.held.specs.HeldLaws.{enter-accepted}
-use Rattle.forms.specs.ReadingLaws.{set-padded}
+use Rattle.held.specs.HeldLaws.{padded-full, standing-values, enter-accepted}
 use Rattle.journal.specs.JournalLaws.{take-passes}
+use Rattle.journal.specs.RunLaws.{same-point, values-more}
 use Rattle.clean_sheets.specs.Clean.{calledAt}
 use Rattle.clean_sheets.specs.AnswersLaws.{begins, report-next}
-use Rattle.loading.specs.Loading.{openingOf, valueOf, valuesUpTo, stoppedAfter, firstBelow, drawnOf, partOf, heldPart}
-use Rattle.loading.specs.Claims.{Stopped, Goes}
-use Rattle.loading.specs.DrawLaws.{accepted, ranged, crosses}
+use Rattle.loading.specs.Loading.{loadOpening, loadValue, loadValues, stoppedAfter, firstBelow, valuesDrawn, loadPart, heldPart}
+use Rattle.loading.specs.Claims.{Stopped, GoesOn}
+use Rattle.loading.specs.DrawLaws.{accepted, value-ranged, second-crosses}
 
 -- ---- where the search stands after the first n values
 
@@ -46,55 +45,55 @@ going-more seed n g e m h = go (ltb m n) refl
     go true f = g m (ltb-true m n f)
     go false f = let i : m ≡ n = omega (arith, ltb-false m n f) in ap (stoppedAfter seed) i ∙ e
 
-abbrev leadsTo : (seed n : ℕ) → Progress
-leadsTo seed n = progressOf (openingOf seed) (valuesUpTo seed n)
+abbrev standsAfter : (seed n : ℕ) → Progress
+standsAfter seed n = progressOf (loadOpening seed) (loadValues seed n)
 
 abbrev Stage : (seed n : ℕ) → Progress → Type 0
 Stage seed zero p = p ≡ Progress.Begun
-Stage seed (suc zero) p = p ≡ Progress.First (valueOf seed 0)
+Stage seed (suc zero) p = p ≡ Progress.First (loadValue seed 0)
 Stage seed (suc (suc n)) p = (k : Bracket) × (p ≡ Progress.Bracketed k)
 
 -- one value more
-leads-more : (seed n : ℕ) → leadsTo seed (suc n) ≡ takeOf (openingOf seed) (leadsTo seed n) (valueOf seed n)
-unfolding valuesUpTo
-leads-more seed n = progress-more (openingOf seed) (valuesUpTo seed n) (valueOf seed n)
+leads-more : (seed n : ℕ) → standsAfter seed (suc n) ≡ takeOf (loadOpening seed) (standsAfter seed n) (loadValue seed n)
+unfolding loadValues
+leads-more seed n = progress-more (loadOpening seed) (loadValues seed n) (loadValue seed n)
 
-taken-from : (seed n : ℕ) (p : Progress) → leadsTo seed n ≡ p → leadsTo seed (suc n) ≡ takeOf (openingOf seed) p (valueOf seed n)
-taken-from seed n p e = leads-more seed n ∙ ap (λ (q : Progress). takeOf (openingOf seed) q (valueOf seed n)) e
+taken-from : (seed n : ℕ) (p : Progress) → standsAfter seed n ≡ p → standsAfter seed (suc n) ≡ takeOf (loadOpening seed) p (loadValue seed n)
+taken-from seed n p e = leads-more seed n ∙ ap (λ (q : Progress). takeOf (loadOpening seed) q (loadValue seed n)) e
 
-stage-more : (seed n : ℕ) → Stage seed n (leadsTo seed n) → stoppedAfter seed n ≡ false → Stage seed (suc n) (leadsTo seed (suc n))
+stage-more : (seed n : ℕ) → Stage seed n (standsAfter seed n) → stoppedAfter seed n ≡ false → Stage seed (suc n) (standsAfter seed (suc n))
 unfolding stoppedAfter
 stage-more seed zero e s =
-    taken-from seed zero Progress.Begun e ∙ take-passes (openingOf seed) Progress.Begun (valueOf seed 0) refl refl (ranged seed 0) refl
+    taken-from seed zero Progress.Begun e ∙ take-passes (loadOpening seed) Progress.Begun (loadValue seed 0) refl refl (value-ranged seed 0) refl
 stage-more seed (suc zero) e s = (
   _,
-  taken-from seed (suc zero) (Progress.First (valueOf seed 0)) e
-      ∙ take-passes (openingOf seed) (Progress.First (valueOf seed 0)) (valueOf seed 1) refl refl (ranged seed 1) (crosses seed),
+  taken-from seed (suc zero) (Progress.First (loadValue seed 0)) e
+      ∙ take-passes (loadOpening seed) (Progress.First (loadValue seed 0)) (loadValue seed 1) refl refl (value-ranged seed 1) (second-crosses seed),
 )
 stage-more seed (suc (suc n)) e s =
-    let v = valueOf seed (suc (suc n)) in (
+    let v = loadValue seed (suc (suc n)) in (
       _,
       taken-from seed (suc (suc n)) (Progress.Bracketed (e .0)) (e .1)
-          ∙ take-passes (openingOf seed) (Progress.Bracketed (e .0)) v refl (rw (e .1) at s) (ranged seed (suc (suc n))) refl,
+          ∙ take-passes (loadOpening seed) (Progress.Bracketed (e .0)) v refl (rw (e .1) at s) (value-ranged seed (suc (suc n))) refl,
     )
 
-stage : (seed n : ℕ) → Going seed n → Stage seed n (leadsTo seed n)
-unfolding valuesUpTo progressOf
-stage seed zero g = begins (openingOf seed) (accepted seed)
+stage : (seed n : ℕ) → Going seed n → Stage seed n (standsAfter seed n)
+unfolding loadValues progressOf
+stage seed zero g = begins (loadOpening seed) (accepted seed)
 stage seed (suc n) g = stage-more seed n (stage seed n (λ m h. g m (omega arith))) (g n (omega arith))
 
-pub values-length : (seed n : ℕ) → length (valuesUpTo seed n) ≡ n
-unfolding valuesUpTo
+pub values-length : (seed n : ℕ) → length (loadValues seed n) ≡ n
+unfolding loadValues
 values-length seed zero = refl
-values-length seed (suc n) = omega (arith, length-append (valuesUpTo seed n) (valueOf seed n ∷ []), values-length seed n)
+values-length seed (suc n) = omega (arith, length-append (loadValues seed n) (loadValue seed n ∷ []), values-length seed n)
 
 -- it counts the values, and is not refused
-stage-counted : (seed n : ℕ) → Stage seed n (leadsTo seed n) → CountedAt n (leadsTo seed n)
+stage-counted : (seed n : ℕ) → Stage seed n (standsAfter seed n) → CountedAt n (standsAfter seed n)
 stage-counted seed zero e = subst (CountedAt zero) (sym e) refl
 stage-counted seed (suc zero) e = subst (CountedAt (suc zero)) (sym e) refl
 stage-counted seed (suc (suc n)) e =
     subst (CountedAt (suc (suc n))) (sym (e .1))
-    (counts (openingOf seed) (accepted seed) (valuesUpTo seed (suc (suc n))) (e .0) (e .1) ∙ values-length seed (suc (suc n)))
+    (counts (loadOpening seed) (accepted seed) (loadValues seed (suc (suc n))) (e .0) (e .1) ∙ values-length seed (suc (suc n)))
 
 stage-fine : (seed n : ℕ) (p : Progress) → Stage seed n p → isRefused p ≡ false
 stage-fine seed zero p e = ap isRefused e
@@ -104,25 +103,25 @@ stage-fine seed (suc (suc n)) p e = ap isRefused (e .1)
 -- ---- how many values are drawn
 
 -- fewer than the quote, while the search has not stopped
-pub room : (seed n : ℕ) → Going seed (suc n) → n < mostOf (openingOf seed)
+pub room : (seed n : ℕ) → Going seed (suc n) → n < mostOf (loadOpening seed)
 unfolding stoppedAfter
 room seed zero g = omega arith
 room seed (suc zero) g = omega arith
 room seed (suc (suc n)) g =
     let e = stage seed (suc (suc n)) (λ m h. g m (omega arith)) in
-    let s : stoppedAt (openingOf seed) (Progress.Bracketed (e .0)) ≡ false = rw (e .1) at (g (suc (suc n)) (omega arith)) in
-    omega (arith, before-stop (openingOf seed) (accepted seed) (valuesUpTo seed (suc (suc n))) (e .0) (e .1) s, values-length seed (suc (suc n)))
+    let s : stoppedAt (loadOpening seed) (Progress.Bracketed (e .0)) ≡ false = rw (e .1) at (g (suc (suc n)) (omega arith)) in
+    omega (arith, before-stop (loadOpening seed) (accepted seed) (loadValues seed (suc (suc n))) (e .0) (e .1) s, values-length seed (suc (suc n)))
 
-pub going-quoted : (seed n : ℕ) → Going seed n → n ≤ mostOf (openingOf seed)
+pub going-quoted : (seed n : ℕ) → Going seed n → n ≤ mostOf (loadOpening seed)
 going-quoted seed zero g = zero-le
 going-quoted seed (suc n) g = room seed n g
 
-at-quote : (seed : ℕ) → Going seed (mostOf (openingOf seed)) → stoppedAfter seed (mostOf (openingOf seed)) ≡ true
-at-quote seed g = go (stoppedAfter seed (mostOf (openingOf seed))) refl
+at-quote : (seed : ℕ) → Going seed (mostOf (loadOpening seed)) → stoppedAfter seed (mostOf (loadOpening seed)) ≡ true
+at-quote seed g = go (stoppedAfter seed (mostOf (loadOpening seed))) refl
   where
-    go : (b : Bool) → stoppedAfter seed (mostOf (openingOf seed)) ≡ b → b ≡ true
+    go : (b : Bool) → stoppedAfter seed (mostOf (loadOpening seed)) ≡ b → b ≡ true
     go true e = refl
-    go false e = absurd (omega (arith, room seed (mostOf (openingOf seed)) (going-more seed (mostOf (openingOf seed)) g e)))
+    go false e = absurd (omega (arith, room seed (mostOf (loadOpening seed)) (going-more seed (mostOf (loadOpening seed)) g e)))
 
 -- looking below a number is enough where the property holds there unless it holds before
 first-least : (most : ℕ) (p : ℕ → Bool) → (((m : ℕ) → m < most → p m ≡ false) → p most ≡ true)
@@ -149,15 +148,15 @@ first-least (suc most) p h = go (p 0) refl (λ g. first-least most (λ n. p (suc
     go false e k = let r = k (below e) in (record { holds = r .0 .holds; least = above e (r .0) }, omega (arith, r .1))
 
 -- the least number after which the search has stopped, and no more than the quote
-pub drawn : (seed : ℕ) → Least (λ n. stoppedAfter seed n ≡ true) (drawnOf seed) × (drawnOf seed ≤ mostOf (openingOf seed))
-unfolding drawnOf
-drawn seed = first-least (mostOf (openingOf seed)) (stoppedAfter seed) (at-quote seed)
+pub drawn : (seed : ℕ) → Least (λ n. stoppedAfter seed n ≡ true) (valuesDrawn seed) × (valuesDrawn seed ≤ mostOf (loadOpening seed))
+unfolding valuesDrawn
+drawn seed = first-least (mostOf (loadOpening seed)) (stoppedAfter seed) (at-quote seed)
 
-pub most-fits : (seed : ℕ) → mostOf (openingOf seed) ≤ slots
-most-fits seed = most-slots (openingOf seed) (opened (openingOf seed) (accepted seed))
+pub most-fits : (seed : ℕ) → mostOf (loadOpening seed) ≤ slots
+most-fits seed = most-slots (loadOpening seed) (opened (loadOpening seed) (accepted seed))
 
 -- before it the search goes on
-pub going-drawn : (seed : ℕ) → Going seed (drawnOf seed)
+pub going-drawn : (seed : ℕ) → Going seed (valuesDrawn seed)
 going-drawn seed m h = go (stoppedAfter seed m) refl
   where
     go : (b : Bool) → stoppedAfter seed m ≡ b → b ≡ false
@@ -165,35 +164,35 @@ going-drawn seed m h = go (stoppedAfter seed m) refl
     go false e = refl
 
 -- and where it goes on so far, and has stopped, is there
-pub drawn-is : (seed n : ℕ) → Going seed n → stoppedAfter seed n ≡ true → n ≡ drawnOf seed
-drawn-is seed n g e = go (ltb (drawnOf seed) n) refl
+pub drawn-is : (seed n : ℕ) → Going seed n → stoppedAfter seed n ≡ true → n ≡ valuesDrawn seed
+drawn-is seed n g e = go (ltb (valuesDrawn seed) n) refl
   where
-    go : (b : Bool) → ltb (drawnOf seed) n ≡ b → n ≡ drawnOf seed
-    go true f = never (sym (drawn seed .0 .holds) ∙ g (drawnOf seed) (ltb-true (drawnOf seed) n f))
-    go false f = omega (arith, ltb-false (drawnOf seed) n f, drawn seed .0 .least n e)
+    go : (b : Bool) → ltb (valuesDrawn seed) n ≡ b → n ≡ valuesDrawn seed
+    go true f = never (sym (drawn seed .0 .holds) ∙ g (valuesDrawn seed) (ltb-true (valuesDrawn seed) n f))
+    go false f = omega (arith, ltb-false (valuesDrawn seed) n f, drawn seed .0 .least n e)
 
 -- ---- the part of n values
 
 module _ (seed n : ℕ) (few : n ≤ slots) where
-  pub slots-full : length (partOf seed n .slots) ≡ slots
-  slots-full = simp (length-append, length-replicate) (omega (arith, values-length seed n))
+  values-few : length (loadValues seed n) ≤ slots
+  values-few = omega (arith, values-length seed n)
 
-  pub stands : standingOf (partOf seed n) ≡ leadsTo seed n
-  unfolding standingOf
-  stands =
-      simp (le-ltb slots (length (valuesUpTo seed n)) (omega (arith, values-length seed n)))
-      (ap (progressOf (openingOf seed)) (take-at (valuesUpTo seed n) _ (length (valuesUpTo seed n)) refl))
+  pub slots-full : length (loadPart seed n .slots) ≡ slots
+  slots-full = padded-full (loadOpening seed) (loadValues seed n) values-few
 
-  pub tells : heldReport (partOf seed n) ≡ reportAt (openingOf seed) (leadsTo seed n)
+  stands : standingOf (loadPart seed n) ≡ standsAfter seed n
+  stands = standing-values (loadOpening seed) (loadValues seed n) values-few
+
+  tells : heldReport (loadPart seed n) ≡ reportAt (loadOpening seed) (standsAfter seed n)
   unfolding heldReport
-  tells = ap (reportAt (openingOf seed)) stands
+  tells = ap (reportAt (loadOpening seed)) stands
 
 -- a fresh search holds no value
-pub fresh-part : (seed : ℕ) → openOf (openingOf seed) ≡ heldPart seed 0
-unfolding reopenOf valuesUpTo reportOf
+pub fresh-part : (seed : ℕ) → openOf (loadOpening seed) ≡ heldPart seed 0
+unfolding reopenOf loadValues reportOf
 fresh-part seed =
-    simp (eq-eqb (openingRefusal (openingOf seed)) 0 (accepted seed .accepted))
-    (ap (λ (r : Report). record { report = r; search = partOf seed 0 }) (sym (tells seed 0 (omega arith))))
+    simp (eq-eqb (openingRefusal (loadOpening seed)) 0 (accepted seed .accepted))
+    (ap (λ (r : Report). record { report = r; search = loadPart seed 0 }) (sym (tells seed 0 (omega arith))))
 
 -- once stopped, its report is the stop
 bracket-stopped : (o : Opening) (k : Bracket) (n : ℕ) → stoppedOf o k ≡ true → k .taken ≡ n → Stopped n (reportAt o (Progress.Bracketed k))
@@ -201,30 +200,30 @@ unfolding reportAt bracketReport
 bracket-stopped o k n s e =
     record { lower = lowerOf k; upper = upperOf k; better = k .better .point; told = simp s (ap (Report.Stop (lowerOf k) (upperOf k) (k .better .point)) e) }
 
-stage-stopped : (seed n : ℕ) (p : Progress) → Stage seed n p → CountedAt n p → stoppedAt (openingOf seed) p ≡ true → Stopped n (reportAt (openingOf seed) p)
+stage-stopped : (seed n : ℕ) (p : Progress) → Stage seed n p → CountedAt n p → stoppedAt (loadOpening seed) p ≡ true → Stopped n (reportAt (loadOpening seed) p)
 stage-stopped seed zero p e c s = never (sym (rw e at s))
 stage-stopped seed (suc zero) p e c s = never (sym (rw e at s))
 stage-stopped seed (suc (suc n)) p e c s =
-    rw (e .1) (bracket-stopped (openingOf seed) (e .0) (suc (suc n)) (rw (e .1) at s) (subst (CountedAt (suc (suc n))) (e .1) c))
+    rw (e .1) (bracket-stopped (loadOpening seed) (e .0) (suc (suc n)) (rw (e .1) at s) (subst (CountedAt (suc (suc n))) (e .1) c))
 
-pub part-stopped : (seed n : ℕ) → n ≤ slots → Going seed n → stoppedAfter seed n ≡ true → Stopped n (heldReport (partOf seed n))
+pub part-stopped : (seed n : ℕ) → n ≤ slots → Going seed n → stoppedAfter seed n ≡ true → Stopped n (heldReport (loadPart seed n))
 unfolding stoppedAfter
 part-stopped seed n h g s =
     let e = stage seed n g in
-    subst (Stopped n) (sym (tells seed n h)) (stage-stopped seed n (leadsTo seed n) e (stage-counted seed n e) s)
+    subst (Stopped n) (sym (tells seed n h)) (stage-stopped seed n (standsAfter seed n) e (stage-counted seed n e) s)
 
 -- ---- till then a point is called for, and the next value is entered there
 
 -- the point called for is none other
 called-same : (o : Opening) (p : Progress) → isRefused p ≡ false → stoppedAt o p ≡ false → otherAt o p (pos (calledAt o p)) ≡ false
-called-same o Progress.Begun r s = ap not (eq-eqZ (pos (firstOf o)) (pos (firstOf o)) refl)
-called-same o (Progress.First v) r s = ap not (eq-eqZ (pos (secondOf o)) (pos (secondOf o)) refl)
-called-same o (Progress.Bracketed k) r s = simp s (ap not (eq-eqZ (pos (nextOf o k)) (pos (nextOf o k)) refl))
+called-same o Progress.Begun r s = same-point _ (firstOf o) refl
+called-same o (Progress.First v) r s = same-point _ (secondOf o) refl
+called-same o (Progress.Bracketed k) r s = simp s (same-point _ (nextOf o k) refl)
 called-same o (Progress.Refused n i) r s = never r
 
 module _ (seed n : ℕ) (going : Going seed n) (on : stoppedAfter seed n ≡ false) where
   abbrev o : Opening
-  o = openingOf seed
+  o = loadOpening seed
 
   more : Going seed (suc n)
   more = going-more seed n going on
@@ -232,42 +231,38 @@ module _ (seed n : ℕ) (going : Going seed n) (on : stoppedAfter seed n ≡ fal
   few : n < slots
   few = omega (arith, room seed n more, most-fits seed)
 
-  fine : isRefused (leadsTo seed n) ≡ false
-  fine = stage-fine seed n (leadsTo seed n) (stage seed n going)
+  fine : isRefused (standsAfter seed n) ≡ false
+  fine = stage-fine seed n (standsAfter seed n) (stage seed n going)
 
-  still : stoppedAt o (leadsTo seed n) ≡ false
+  still : stoppedAt o (standsAfter seed n) ≡ false
   unfolding stoppedAfter
   still = on
 
   abbrev point : ℕ
-  point = calledAt o (leadsTo seed n)
+  point = calledAt o (standsAfter seed n)
 
-  tried : leadsTo seed (suc n) ≡ triedOf (partOf seed n) (pos point) (valueOf seed n)
+  tried : standsAfter seed (suc n) ≡ triedOf (loadPart seed n) (pos point) (loadValue seed n)
   unfolding takeOf
   tried =
       leads-more seed n
-      ∙ sym (ap (λ (b : Bool). offerOf o (leadsTo seed n) b (valueOf seed n)) (called-same o (leadsTo seed n) fine still))
-      ∙ sym (ap (λ (p : Progress). offerOf o p (otherAt o p (pos point)) (valueOf seed n)) (stands seed n (omega (arith, few))))
+      ∙ sym (ap (λ (b : Bool). offerOf o (standsAfter seed n) b (loadValue seed n)) (called-same o (standsAfter seed n) fine still))
+      ∙ sym (ap (λ (p : Progress). offerOf o p (otherAt o p (pos point)) (loadValue seed n)) (stands seed n (omega (arith, few))))
 
-  part-more : partOf seed (suc n) ≡ withValue (partOf seed n) (valueOf seed n)
-  unfolding valuesUpTo
-  part-more =
-      let vs = valuesUpTo seed n in
-      let v = valueOf seed n in
-      ap₂ (λ (i : ℕ) (l : List ℤ). record { opening = o; count = i; slots = l }) (length-append vs (v ∷ []))
-      (sym (set-padded vs v (omega (arith, few, values-length seed n))))
+  part-more : loadPart seed (suc n) ≡ withValue (loadPart seed n) (loadValue seed n)
+  unfolding loadValues
+  part-more = values-more o (loadValues seed n) (loadValue seed n) (omega (arith, few, values-length seed n))
 
-  pub goes : Goes seed n
+  pub goes : GoesOn seed n
   goes =
       record {
         point = point;
-        called = tells seed n (omega (arith, few)) ∙ report-next o n (leadsTo seed n) (stage-counted seed n (stage seed n going)) fine still;
+        called = tells seed n (omega (arith, few)) ∙ report-next o n (standsAfter seed n) (stage-counted seed n (stage seed n going)) fine still;
         entered =
             sym
-            (enter-accepted (partOf seed n) (pos point) (valueOf seed n) (leadsTo seed (suc n)) (heldReport (partOf seed (suc n))) tried
+            (enter-accepted (loadPart seed n) (pos point) (loadValue seed n) (standsAfter seed (suc n)) (heldReport (loadPart seed (suc n))) tried
             (tells seed (suc n) (omega (arith, few)))
             (slots-full seed n (omega (arith, few)))
-            (stage-fine seed (suc n) (leadsTo seed (suc n)) (stage seed (suc n) more))
-            (partOf seed (suc n))
+            (stage-fine seed (suc n) (standsAfter seed (suc n)) (stage seed (suc n) more))
+            (loadPart seed (suc n))
             part-more);
       }

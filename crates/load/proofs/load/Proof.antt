@@ -10,12 +10,12 @@ use Rattle.load.proofs.load.Tie as tie
 is-seed-requires : tie.Need-is-seed-requires
 is-seed-requires c κs = search needs
 
-made-requires : tie.Need-made-requires
-made-requires c κs = search needs
+draw-load-requires : tie.Need-draw-load-requires
+draw-load-requires c κs = search needs
 
 returns : tie.Need-returns
 unfolding loadOf
-returns c = (simp (sym (c .before .before .is-seed .ensures) ∙ c .before .if1 .taken, c .made .ensures), every-load)
+returns c = (simp (sym (c .before .before .is-seed .ensures) ∙ c .before .if1 .taken, c .draw-load .ensures), every-load)
 
 blank-requires : tie.Need-blank-requires
 blank-requires c κs = search needs
@@ -25,4 +25,4 @@ unfolding loadOf
 returns-2 c = (simp (sym (c .before .before .is-seed .ensures) ∙ c .before .if1 .left, c .blank .ensures), every-load)
 
 pub load-spec : {M : Type 1} → statement M
-load-spec = tie.close (tie.spec is-seed-requires made-requires returns blank-requires returns-2)
+load-spec = tie.close (tie.spec is-seed-requires draw-load-requires returns blank-requires returns-2)
