@@ -443,9 +443,10 @@ struct busdekker_written busdekker_panel(struct busdekker_search *search, const 
  *                    changed, and of no other
  *
  * The share is 0. Values are drawn until the search stops, and no more: never more than `most` of busdekker_quote for its opening. Slots at or past
- * the count hold 0. The report is the one that busdekker_ask tells of the search, BUSDEKKER_STOP; busdekker_write gives its clean sheet, which
- * busdekker_sheet reads as this search. To run it, a host opens a search with its opening and enters slots[0] to slots[count - 1] in turn, each for the
- * point called for, by busdekker_enter or a panel: it then has this search, and the last report is this one. The points stand in the clean sheet.
+ * the count hold 0. The report is the one that busdekker_ask tells of the search, BUSDEKKER_STOP; busdekker_write gives its clean sheet, on which
+ * busdekker_sheet tells the same. To run it, a host opens a search with its opening and enters slots[0] to slots[count - 1] in turn, each for the
+ * point called for: it then has this search, by busdekker_enter and by a panel, and the last report of busdekker_enter is this one. The points stand
+ * in the clean sheet.
  * A refusal (20, place 0) says that the seed is not 1 to BUSDEKKER_LARGEST_SEED; beside it stands a search of which every number is 0, and which
  * busdekker_ask refuses (3). Of a wider number than 32 bits C passes the low 32, which may be a seed: the host looks at it first.
  */
