@@ -74,7 +74,7 @@ loadValues seed (suc n) = loadValues seed n ++ (loadValue seed n ∷ [])
 unfoldable pub stoppedAfter : (seed n : ℕ) → Bool
 stoppedAfter seed n = stoppedAt (loadOpening seed) (progressOf (loadOpening seed) (loadValues seed n))
 
--- the first of 0, 1, 2 .. that has a property, if one below `most` has it
+-- the first of 0, 1, 2 .. that has a property, if one below `most` has it, and otherwise `most`
 unfoldable pub firstBelow : (most : ℕ) (has : ℕ → Bool) → ℕ
 firstBelow zero has = zero
 firstBelow (suc most) has = cond (has zero) zero (suc (firstBelow most (λ n. has (suc n))))
