@@ -22,7 +22,7 @@ use Rattle.rules.specs.Refusals.{hadStopped, notCalledFor, valueOutOfRange, sam
 use Rattle.rules.specs.RefusalsLaws.{Opened, opposed-crossing}
 use Rattle.rules.specs.Search.{isRefused, beginOf, stoppedAt, sameSideAt, otherAt, enteredAt, offerOf, takeOf, progressOf, bracketReport}
 use Rattle.rules.specs.Search.{reportAt, reportOf, mostOf}
-use Rattle.rules.specs.SearchLaws.{Sound, sound-start, sound-advance, advanced, counts, at-most, before-stop}
+use Rattle.rules.specs.SearchLaws.{Sound, sound-start, sound-advance, advanced, counts, at-most, going-fewer}
 use Rattle.journal.specs.Answers.{answerValue, values}
 use Rattle.journal.specs.Journal.{sampleOf, advancedBy, bracketOf, stopOf, pointCalled, reportWith, journalReport, oneSide, refusalOf}
 use Rattle.journal.specs.Journal.{takes, bracketsFrom, bracketsOf, Nested, Opposed}
@@ -33,6 +33,11 @@ abbrev pub stageOf : List Answer → Progress
 stageOf [] = Progress.Begun
 stageOf (a ∷ []) = Progress.First (a .value)
 stageOf (a ∷ b ∷ rest) = Progress.Bracketed (bracketOf a b rest)
+
+pub stage-fine : (journal : List Answer) → isRefused (stageOf journal) ≡ false
+stage-fine [] = refl
+stage-fine (x ∷ []) = refl
+stage-fine (x ∷ y ∷ rest) = refl
 
 -- the two have one stop, and one point called for while there is no stop
 stop-stage : (o : Opening) (journal : List Answer) → stopOf o journal ≡ stoppedAt o (stageOf journal)
@@ -218,13 +223,10 @@ module _ (o : Opening) (accepted : Accepted o) (journal : List Answer) (kept : K
       go (x ∷ y ∷ rest) e f = omega (arith, as-many, at-most o accepted (values journal) (bracketOf x y rest) f)
 
   pub fewer-answers : stopOf o journal ≡ false → length journal < mostOf o
-  unfolding stopOf
-  fewer-answers = go journal refl leads
-    where
-      go : (b : List Answer) → journal ≡ b → progressOf o (values journal) ≡ stageOf b → stopOf o b ≡ false → length journal < mostOf o
-      go [] e f s = omega (arith, ap length e)
-      go (x ∷ []) e f s = omega (arith, ap length e)
-      go (x ∷ y ∷ rest) e f s = omega (arith, as-many, before-stop o accepted (values journal) (bracketOf x y rest) f s)
+  fewer-answers s =
+      let fine = ap isRefused leads ∙ stage-fine journal in
+      let going = ap (stoppedAt o) leads ∙ sym (stop-stage o journal) ∙ s in
+      omega (arith, as-many, going-fewer o (values journal) fine going)
 
 -- ---- the brackets: each lies within the one before, and its values are never both above or both below target
 

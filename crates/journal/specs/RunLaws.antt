@@ -21,7 +21,7 @@ use Rattle.rules.specs.declared.Report.{Report}
 use Rattle.rules.specs.Rules.{highest, slots, padded, firstOf, secondOf, startOf, nextOf, advanceOf}
 use Rattle.rules.specs.Refusals.{Accepted}
 use Rattle.rules.specs.RefusalsLaws.{Opened, opened, Ranged}
-use Rattle.rules.specs.Search.{isRefused, takenOf, otherAt, enteredAt, answeredAt, offerOf, takeOf, answersOf, reportAt}
+use Rattle.rules.specs.Search.{takenOf, otherAt, enteredAt, answeredAt, offerOf, takeOf, answersOf, reportAt}
 use Rattle.rules.specs.SearchLaws.{Sound, ahead, counts, most-slots}
 use Rattle.held.specs.Held.{valuesOf, standingOf, heldReport, withValue, triedOf, enterOf}
 use Rattle.held.specs.declared.Search.{Search}
@@ -36,7 +36,7 @@ use Rattle.journal.specs.Answers as Answers
 use Rattle.journal.specs.Journal.{sampleOf, advancedBy, bracketOf, pointCalled, journalReport, refusalOf, takes, journalWith, toldOf}
 use Rattle.journal.specs.Run.{holding}
 use Rattle.journal.specs.SpellingLaws.{Spellable, SpellableOpening, SpellableAnswers}
-use Rattle.journal.specs.JournalLaws.{stageOf, refusal-stage, Onward, At, Kept, Fine, fine, kept-more, first-taken, second-taken}
+use Rattle.journal.specs.JournalLaws.{stageOf, stage-fine, refusal-stage, Onward, At, Kept, Fine, fine, kept-more, first-taken, second-taken}
 use Rattle.journal.specs.JournalLaws.{next-taken, kept-progress, sample-is, report-stage, at-most-answers, step-sound, start-sound}
 
 -- ---- the journal's stage with one answer more
@@ -54,11 +54,6 @@ stage-more o (x ∷ []) a k f =
 stage-more o (x ∷ y ∷ rest) a k f =
     ap (λ (s : Sample). Progress.Bracketed (advanceOf (bracketOf x y rest) s)) (sym (sample-is a (nextOf o (bracketOf x y rest)) (f .called)))
     ∙ ap Progress.Bracketed (sym (advanced-more (startOf (sampleOf x) (sampleOf y)) rest a))
-
-stage-fine : (journal : List Answer) → isRefused (stageOf journal) ≡ false
-stage-fine [] = refl
-stage-fine (x ∷ []) = refl
-stage-fine (x ∷ y ∷ rest) = refl
 
 offer-stage : (o : Opening) (journal : List Answer) (other : Bool) (v : ℤ)
     → offerOf o (stageOf journal) other v ≡ answeredAt o (stageOf journal) other v

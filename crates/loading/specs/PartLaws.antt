@@ -20,7 +20,7 @@ use Rattle.rules.specs.Rules.{slots, firstOf, secondOf, lowerOf, upperOf, stopp
 use Rattle.rules.specs.Refusals.{openingRefusal}
 use Rattle.rules.specs.RefusalsLaws.{opened}
 use Rattle.rules.specs.Search.{isRefused, stoppedAt, otherAt, offerOf, takeOf, progressOf, bracketReport, reportAt, reportOf, mostOf}
-use Rattle.rules.specs.SearchLaws.{CountedAt, counts, before-stop, progress-more, most-slots}
+use Rattle.rules.specs.SearchLaws.{CountedAt, counts, going-fewer, progress-more, most-slots}
 use Rattle.held.specs.Held.{reopenOf, openOf, standingOf, heldReport, withValue, triedOf}
 use Rattle.held.specs.HeldLaws.{padded-full, standing-values, enter-accepted}
 use Rattle.journal.specs.JournalLaws.{take-passes}
@@ -105,12 +105,9 @@ stage-fine seed (suc (suc n)) p e = ap isRefused (e .1)
 -- fewer than the quote, while the search has not stopped
 pub room : (seed n : ℕ) → Going seed (suc n) → n < mostOf (loadOpening seed)
 unfolding stoppedAfter
-room seed zero g = omega arith
-room seed (suc zero) g = omega arith
-room seed (suc (suc n)) g =
-    let e = stage seed (suc (suc n)) (λ m h. g m (omega arith)) in
-    let s : stoppedAt (loadOpening seed) (Progress.Bracketed (e .0)) ≡ false = rw (e .1) at (g (suc (suc n)) (omega arith)) in
-    omega (arith, before-stop (loadOpening seed) (accepted seed) (loadValues seed (suc (suc n))) (e .0) (e .1) s, values-length seed (suc (suc n)))
+room seed n g =
+    let fine = stage-fine seed n (standsAfter seed n) (stage seed n (λ m h. g m (omega arith))) in
+    omega (arith, going-fewer (loadOpening seed) (loadValues seed n) fine (g n (omega arith)), values-length seed n)
 
 pub going-quoted : (seed n : ℕ) → Going seed n → n ≤ mostOf (loadOpening seed)
 going-quoted seed zero g = zero-le

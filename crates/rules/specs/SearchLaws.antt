@@ -359,6 +359,19 @@ module _ (o : Opening) (accepted : Accepted o) (vs : List ℤ) (k : Bracket) (at
     pub next-between : (lowerOf k < nextOf o k) × (nextOf o k < upperOf k)
     next-between = let a = ahead o k (pos 0) bracket-opened bracket-sound going in (a .above, a .below)
 
+-- a search that goes on has fewer values than its quote
+pub going-fewer : (o : Opening) (vs : List ℤ) → isRefused (progressOf o vs) ≡ false → stoppedAt o (progressOf o vs) ≡ false → length vs < mostOf o
+going-fewer o vs fine going = go (progressOf o vs) refl
+  where
+    accepted : Accepted o
+    accepted = accepted-of o vs fine
+
+    go : (p : Progress) → progressOf o vs ≡ p → length vs < mostOf o
+    go Progress.Begun e = omega (arith, subst (CountedAt (length vs)) e (counted o accepted vs))
+    go (Progress.First u) e = omega (arith, subst (CountedAt (length vs)) e (counted o accepted vs))
+    go (Progress.Bracketed k) e = before-stop o accepted vs k e (subst (λ (p : Progress). stoppedAt o p ≡ false) e going)
+    go (Progress.Refused n i) e = never (sym (ap isRefused e) ∙ fine)
+
 -- ---- the quote
 
 -- t over the whole range at τ = 1
@@ -408,18 +421,6 @@ module _ (o : Opening) (vs : List ℤ) (other : Bool) (v : ℤ) (h : isRefused (
 
   -- there were fewer values than a held search has slots
   pub accepted-room : length vs < slots
-  accepted-room = go (progressOf o vs) refl
-    where
-      taken : Taken o (progressOf o vs) other v
-      taken = taken-is o (progressOf o vs) other v h
-
-      count : CountedAt (length vs) (progressOf o vs)
-      count = counted o (accepted-of o vs (taken .standing)) vs
-
-      go : (p : Progress) → progressOf o vs ≡ p → length vs < slots
-      go Progress.Begun e = omega (arith, subst (CountedAt (length vs)) e count)
-      go (Progress.First u) e = omega (arith, subst (CountedAt (length vs)) e count)
-      go (Progress.Bracketed k) e =
-          let a = accepted-of o vs (taken .standing) in
-          omega (arith, before-stop o a vs k e (subst (λ (p : Progress). stoppedAt o p ≡ false) e (taken .passed .going)), most-slots o (opened o a))
-      go (Progress.Refused n i) e = never (sym (ap isRefused e) ∙ taken .standing)
+  accepted-room =
+      let t = taken-is o (progressOf o vs) other v h in
+      omega (arith, going-fewer o vs (t .standing) (t .passed .going), most-slots o (opened o (accepted-of o vs (t .standing))))
