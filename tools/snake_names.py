@@ -26,12 +26,18 @@ APART = {
     "crates/answers/proofs/first_two/Proof.antt": {"other_from": "other_from_at"},
     "crates/walk/proofs/walk_on/Proof.antt": {"other_from": "other_from_at"},
     "crates/clean_sheets/specs/AnswersLaws.antt": {"first-of": "first_of_lem"},
-    "crates/forms/specs/TextLaws.antt": {"body-of": "body_of_lem"},
-    "crates/forms/specs/ReadingLaws.antt": {"body-of": "body_of_lem"},
+    "crates/replay/specs/CallsLaws.antt": {"call-at": "call_at_lem"},
     "crates/changing/src/lib.rt": {"changed_search": "claimed"},
     "crates/old_sheets/src/lib.rt": {"changed_sheet": "claimed"},
-    "crates/replay/specs/CallsLaws.antt": {"call-at": "call_at_lem"},
 }
+LEMMAS = "body-of digits-end first-record is-seed longest-record next-draw no-estimate own-calls refusal-of report-with tail-text values-drawn".split()
+
+
+def apart(path, text):
+    own = {name: name.replace("-", "_") + "_lem" for name in LEMMAS} if path.endswith(".antt") else {}
+    for old, new in (own | APART.get(path, {})).items():
+        text = re.sub(rf"(?<![^\s(){{}};,@]){re.escape(old)}(?![^\s(){{}}.;,@])", new, text)
+    return text
 
 
 def snake(name):
@@ -125,8 +131,7 @@ def turn_rust(line, names, fields):
 
 
 def turn(path, text, names, fields, alone):
-    for old, new in APART.get(path, {}).items():
-        text = re.sub(rf"(?<![^\s(){{}};,@]){re.escape(old)}(?![^\s(){{}}.;,@])", new, text)
+    text = apart(path, text)
     own, f = (names | alone.get(path, set())) - kit_names(text), fields
     if path.endswith(".rt"):
         return "".join(turn_rust(l, own, f) for l in text.splitlines(keepends=True))
@@ -139,10 +144,10 @@ def met(path, before, names, fields):
     code = re.sub(r"[\w·◌'+-]+(?:\.[\w·◌'+-]+)*\.(?=\{)|(?<=use )[\w.+-]+", " ", code)
     if path.endswith(".rt"):
         code = re.sub(r"\b[a-z_0-9]+(?=(?:::<[^()]*>)?\()|::[a-z_0-9]+|\b[a-z_0-9]+::", " ", code)
-    for old, new in APART.get(path, {}).items():
-        code = re.sub(rf"(?<![^\s(){{}};,@]){re.escape(old)}(?![^\s(){{}}.;,@])", new, code)
+    code = apart(path, code)
     olds = set(re.findall(rf"(?<![.\w-]){WORD}", code))
-    return [(w, snake(w)) for w in sorted(olds) if snake(w) != w and (w in names or w in fields) and snake(w) in olds]
+    own = {w for w in olds if snake(w) != w and (w in names or w in fields)}
+    return [(w, snake(w)) for w in sorted(own) if snake(w) in olds or any(snake(v) == snake(w) for v in own - {w})]
 
 
 def main(argv):

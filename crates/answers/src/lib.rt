@@ -1,5 +1,7 @@
 // Answers in order, first values that come with no point and then answers with theirs: the value of each, whether its point is another
 // than the one called for, and where the first two lead.
+#![tactic(auto)]
+
 ghost use Rattle.std.specs.Prelude.{◌≡◌, length, ◌+◌, ◌<◌};
 ghost use Rattle.rules.specs.Search.{answered_at};
 ghost use Rattle.rules.specs.declared.Progress.TheVariants.{First};

@@ -1,5 +1,7 @@
 // What is asked without a held search, answered in plain numbers: the quote of an opening, the report on a list of values, on a sheet, and on
 // a season; and a survey of the range.
+#![tactic(auto)]
+
 ghost use Rattle.std.specs.Prelude.{◌≡◌, length};
 ghost use Rattle.rules.specs.Rows.{row_of, quotation_of};
 ghost use Rattle.rules.specs.Search.{report_of, quote_of};

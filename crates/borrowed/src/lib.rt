@@ -1,1 +1,2 @@
 // Laws for the proofs by hand of functions over a lent struct. There is no function here: see proofs/.
+#![tactic(auto)]

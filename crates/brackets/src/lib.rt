@@ -1,4 +1,6 @@
 // Brackets, by value: the first one, of rule 1 of document 01, and the one after a new point with its value, of rules 6 and 7.
+#![tactic(auto)]
+
 ghost use Rattle.std.specs.Prelude.{◌≡◌, ◌<◌};
 ghost use Rattle.rules.specs.Rules.{pair_of, start_of, gap_of, width_of, partner_of, third_of, streak_of, renewed_of, advance_of};
 ghost use Rattle.brackets.specs.Countable.{Countable};

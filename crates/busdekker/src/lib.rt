@@ -1,5 +1,7 @@
 // The interface for a dryer's controller, exported for C: see include/busdekker.h. Nothing is asked of the caller: what is out of range is
 // refused, and a refusal leaves what was lent as it was.
+#![tactic(auto)]
+
 ghost use Rattle.std.specs.Prelude.{◌≡◌, length};
 ghost use Rattle.rules.specs.Rows.{row_of, quotation_of};
 ghost use Rattle.rules.specs.Search.{report_of, quote_of};

@@ -1,4 +1,6 @@
 // One call of a run, by either kind, and a report stored among others as the numbers of its row.
+#![tactic(auto)]
+
 ghost use Rattle.std.specs.Prelude.{◌≡◌, ◌+◌, ◌≤◌, length};
 ghost use Rattle.std.proofs.lemmas.List.Edits.{sets};
 ghost use Rattle.rules.specs.Rows.{row_numbers};

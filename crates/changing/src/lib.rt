@@ -1,4 +1,6 @@
 // The house default changed from M to R: an opening and a held search from before, in which method 0 was M, changed over.
+#![tactic(auto)]
+
 ghost use Rattle.std.specs.Prelude.{◌≡◌, false};
 ghost use Rattle.rules.specs.Search.{is_refusal};
 ghost use Rattle.held.specs.Held.{held_report};

@@ -1,5 +1,7 @@
 // clean: reads one trial sheet from standard input and writes its clean sheet to standard output, or for a refused sheet the record that
 // zeroin writes; nothing more. Where the input cannot be read, or the sheet cannot be written, it says so in words on standard error.
+#![tactic(auto)]
+
 use replies::Reply;
 
 fn main() {

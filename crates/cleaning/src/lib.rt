@@ -1,4 +1,6 @@
 // A sheet cleaned: the clean sheet of the search that a text is, or the record of its refusal.
+#![tactic(auto)]
+
 ghost use Rattle.std.specs.Prelude.{◌≡◌, true, false, ◌≤◌, length};
 ghost use Rattle.rules.specs.Search.{is_refusal};
 ghost use Rattle.printing.specs.Printed.{record_of, longest_record, placed, placed_length};

@@ -1,4 +1,6 @@
 // Comparisons of numbers in exact arithmetic: the magnitude of a value, and the tests that the rules and the refusals share.
+#![tactic(auto)]
+
 ghost use Rattle.std.specs.Prelude.{◌≡◌, not, pos, nat_abs};
 ghost use Rattle.integers.specs.Signs.{eq_z};
 ghost use Rattle.rules.specs.Rules.{closer, opposed};

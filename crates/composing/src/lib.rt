@@ -1,5 +1,7 @@
 // A clean sheet composed in a buffer, of an opening and accepted values. An inner crate: its callers see that the values are accepted and
 // that there is room.
+#![tactic(auto)]
+
 ghost use Rattle.std.specs.Prelude.{◌≡◌, false, ◌+◌, ◌≤◌, length};
 ghost use Rattle.rules.specs.Search.{is_refused, begin_of, progress_of};
 ghost use Rattle.clean_sheets.specs.Clean.{with_points, answers_text, sheet_text};

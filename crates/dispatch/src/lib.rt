@@ -1,4 +1,6 @@
 // The dispatcher: six dryers and one oven. A call takes the dispatcher by value and answers the report beside the dispatcher as it then is.
+#![tactic(auto)]
+
 ghost use Rattle.std.specs.Prelude.{◌≡◌, ◌<◌};
 ghost use Rattle.dispatching.specs.Dispatching.{dryers, fresh_dispatcher, is_dryer, with_search, raised, served_at, refused_with, settled_by};
 ghost use Rattle.dispatching.specs.Dispatching.{turn_of, opening_at, answer_at, dryer_report};

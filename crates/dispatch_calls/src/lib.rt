@@ -1,5 +1,7 @@
 // The steps of a run of calls to a dispatcher, written down in lists: how many calls there are, and the call at a place, with its report in its
 // place among the rows.
+#![tactic(auto)]
+
 ghost use Rattle.std.specs.Prelude.{◌≡◌, ◌+◌, ◌≤◌, length};
 ghost use Rattle.dispatching.specs.Calls.{call_of};
 ghost use Rattle.dispatch_calls.specs.Listed.{call_with, call_numbers, opening_at, answer_at, how_many, Before, CallMade};

@@ -1,4 +1,6 @@
 // The calls on a dispatcher with what they tell as plain numbers, by value: what the interface for C does to the host's own dispatcher.
+#![tactic(auto)]
+
 ghost use Rattle.std.specs.Prelude.{◌≡◌};
 ghost use Rattle.rules.specs.Rows.{row_of};
 ghost use Rattle.dispatching.specs.Dispatching.{turn_of, opening_at, answer_at, dryer_report};
@@ -8,7 +10,7 @@ use dispatching::{Dispatched, Dispatcher, Turn};
 use rules::{Answer, Opening, Row};
 
 // A report as plain numbers, and beside it the dispatcher as it then is.
-#[derive(Drop)]
+#[derive(Clone, Copy)]
 pub struct DispatchedRow {
     pub report: Row,
     pub dispatcher: Dispatcher,

@@ -1,5 +1,7 @@
 // A run of calls to a dispatcher, written down in lists and made for real: what the calls report and the dispatcher that they leave are those
 // of the claim about whole runs.
+#![tactic(auto)]
+
 ghost use Rattle.dispatch_runs.specs.Runs.{DispatcherRuns};
 
 use dispatching::Dispatcher;

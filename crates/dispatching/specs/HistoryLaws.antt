@@ -47,12 +47,12 @@ module _ (s : Search) (o : Opening) where
 
 -- ---- an accepted answer
 
-refusal_of : (o : Opening) (p : Progress) → is_refused p ≡ true → is_refusal (report_at o p) ≡ true
+refusal_of_lem : (o : Opening) (p : Progress) → is_refused p ≡ true → is_refusal (report_at o p) ≡ true
 unfolding report_at
-refusal_of o Progress.Begun e = never (sym e)
-refusal_of o (Progress.First v) e = never (sym e)
-refusal_of o (Progress.Bracketed k) e = never (sym e)
-refusal_of o (Progress.Refused n i) e = refl
+refusal_of_lem o Progress.Begun e = never (sym e)
+refusal_of_lem o (Progress.First v) e = never (sym e)
+refusal_of_lem o (Progress.Bracketed k) e = never (sym e)
+refusal_of_lem o (Progress.Refused n i) e = refl
 
 -- it reports the search as it then stands
 enter_told : (s : Search) (a : Answer) → is_refusal (enter_of s a.point a.value).report ≡ false
@@ -69,7 +69,7 @@ enter_told s a = go (is_refused tried) refl
         (record { report = held_report (with_value s a.value); search = with_value s a.value })
 
     go : (b : Bool) → is_refused tried ≡ b → is_refusal (enters b).report ≡ false → (enters b).report ≡ held_report (enters b).search
-    go true e t = never (sym (refusal_of s.opening tried e) ∙ t)
+    go true e t = never (sym (refusal_of_lem s.opening tried e) ∙ t)
     go false e t = refl
 
 -- so does every accepted call

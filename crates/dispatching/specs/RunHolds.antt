@@ -15,7 +15,7 @@ use Rattle.dispatching.specs.Calls.{Call, dispatcher_after, dispatcher_at, servi
 use Rattle.dispatching.specs.Run.{Waits, Kept, AtEach, CountsAtEach, EveryDispatcherRun}
 use Rattle.dispatching.specs.DispatchingLaws.{queued_somewhere, next_turn, turn_first, turn_none, due_report}
 use Rattle.dispatching.specs.RunLaws.{after_append, take_more, six_calls, refusal_keeps, served_in_turn, unserved_mark, Nearer, after_calls}
-use Rattle.dispatching.specs.RunLaws.{others_keep, own_calls}
+use Rattle.dispatching.specs.RunLaws.{others_keep, own_calls_lem}
 use Rattle.dispatching.specs.CountLaws.{other_counts, uncleared, one_more, six_counts_after, count_calls, old_calls, old_is_sum}
 use Rattle.dispatching.specs.CountLaws.{alike_reports, alike_calls, count_from_zero, sum_from_zero}
 use Rattle.dispatching.specs.HistoryLaws.{call_told, Holds, holds_calls, booked_kept, blank_stays}
@@ -100,12 +100,12 @@ run d six six_counts calls =
     record {
       at_each = λ p. at_each (dispatcher_at d calls p) (six_calls d six (take p calls));
       waiting = λ p n i. waits d calls p n i;
-      apart = λ p i. own_calls d six i (take p calls);
+      apart = λ p i. own_calls_lem d six i (take p calls);
       kept = λ p i o answers. keeps d six calls p i o answers;
       none_yet = λ p i. no_search d six calls p i;
       independent = λ p p' i d' calls' six' e f.
           ap (λ (s : Search). cond (not (ltb i dryers)) (Report.Refused no_such_dryer 0) (held_report s))
-          (own_calls d six i (take p calls) ∙ ap₂ lone_after e f ∙ sym (own_calls d' six' i (take p' calls')));
+          (own_calls_lem d six i (take p calls) ∙ ap₂ lone_after e f ∙ sym (own_calls_lem d' six' i (take p' calls')));
       counts_at_each = λ p. counts_at_each (dispatcher_at d calls p) (six_counts_after d six_counts (take p calls));
       from_zero = λ zeros.
           record {

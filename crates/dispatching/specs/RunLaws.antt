@@ -183,9 +183,9 @@ module _ (i : ℕ) (Q : Search → List Call → Type 0)
       (own_cases d six i c (λ s cs. Q s (before ++ cs)) (subst (Q (search_at d i)) (sym (append-nil before)) q) (λ is t. one d before c is q t)) calls)
 
 -- the search at a dryer is that of its own accepted calls alone
-pub own_calls : (d : Dispatcher) → length d.searches ≡ dryers → (i : ℕ) (calls : List Call)
+pub own_calls_lem : (d : Dispatcher) → length d.searches ≡ dryers → (i : ℕ) (calls : List Call)
     → search_at (dispatcher_after d calls) i ≡ lone_after (search_at d i) (own_calls d i calls)
-own_calls d six i calls = own_run i (λ s cs. s ≡ lone_after (search_at d i) cs) one d six [] refl calls
+own_calls_lem d six i calls = own_run i (λ s cs. s ≡ lone_after (search_at d i) cs) one d six [] refl calls
   where
     more : (s : Search) (cs : List Call) (c : Call) → lone_after s (cs ++ (c ∷ [])) ≡ lone_after (lone_after s cs) (c ∷ [])
     more s [] c = refl

@@ -1,4 +1,6 @@
 // The types of the dispatcher: six dryers and one oven, of which requests 2026-04 and 2026-05 speak. There is no function here: see specs/.
+#![tactic(auto)]
+
 use held::Search;
 use rules::Report;
 
@@ -13,7 +15,7 @@ pub const CEILING: u32 = 1000000000;
 // A search for each dryer, the dryer served last, and how many answers have been served at each. A dryer with no search holds a blank, whose
 // report is a refusal: it never has the turn, and an opening takes its place. A mark that is no dryer reads as none served.
 #[repr(C)]
-#[derive(Drop)]
+#[derive(Clone, Copy)]
 pub struct Dispatcher {
     pub searches: [Search; ALL_DRYERS],
     pub last: u32,
@@ -21,14 +23,14 @@ pub struct Dispatcher {
 }
 
 // Whose turn the oven is.
-#[derive(Drop)]
+#[derive(Clone, Copy)]
 pub enum Turn {
     Dryer { number: u32 },
     Nobody,
 }
 
 // A report, and beside it the dispatcher as it then is.
-#[derive(Drop)]
+#[derive(Clone, Copy)]
 pub struct Dispatched {
     pub report: Report,
     pub dispatcher: Dispatcher,

@@ -1,5 +1,7 @@
 // The fields of a record: one or two of them at a place of a text, each a number, or one between double quotes, and the comma, the CR LF
 // or the end of the text after each.
+#![tactic(auto)]
+
 ghost use Rattle.std.specs.Prelude.{◌≡◌, ◌<◌};
 ghost use Rattle.scanning.specs.Scan.{before_byte, before_end, before_next, field_at, pair_at};
 

@@ -1,4 +1,6 @@
 // Held searches: a search that keeps its own list of values.
+#![tactic(auto)]
+
 ghost use Rattle.std.specs.Prelude.{◌≡◌};
 ghost use Rattle.held.specs.Held.{fresh_of, blank, reopen_of, open_of, held_report, enter_of};
 
@@ -6,7 +8,7 @@ use rules::{Opening, Report};
 
 // An opening, the number of answers taken, and their values in the first slots.
 #[repr(C)]
-#[derive(Drop)]
+#[derive(Clone, Copy)]
 pub struct Search {
     pub opening: Opening,
     pub count: u32,
@@ -14,7 +16,7 @@ pub struct Search {
 }
 
 // A report, and beside it the search as it then is.
-#[derive(Drop)]
+#[derive(Clone, Copy)]
 pub struct Entered {
     pub report: Report,
     pub search: Search,

@@ -1,8 +1,10 @@
 // The program's input: standard input read into a buffer.
+#![tactic(auto)]
+
 ghost use Rattle.input.specs.Input.{Within};
 
 // What was read: the buffer is full; or the input ended, after so many bytes, fewer than the buffer holds; or a read failed.
-#[derive(Drop)]
+#[derive(Clone, Copy)]
 pub enum Filled {
     Full,
     Ended(usize),

@@ -110,7 +110,7 @@ pub read : {w : Width} {z : ℤ} → SFits w z → to_z w (of_z w z) ≡ z
 read h = to_z-of_z h
 
 pub read64 : {z : ℤ} {k : ℕ} → Within z k → T (ltb k (2 ^ 63)) → to_z w64 (of_z w64 z) ≡ z
-read64 h t = read (within_fits h t)
+read64 h t = read {w = w64} (within_fits h t)
 
 -- `-x` is `0 - x` to the machine
 pub zero_sub : (z : ℤ) → pos 0 -ℤ z ≡ neg_ℤ z

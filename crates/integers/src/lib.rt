@@ -1,1 +1,2 @@
 // Laws on whole numbers that the other crates cite. There is no function here: see specs/.
+#![tactic(auto)]

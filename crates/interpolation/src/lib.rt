@@ -1,5 +1,7 @@
 // Rules 3 to 5 of document 01 in exact 64-bit arithmetic: the linear and the rational estimate, and the displacement that a fraction
 // gives.
+#![tactic(auto)]
+
 ghost use Rattle.std.specs.Prelude.{◌≡◌, ◌≤◌, ◌*◌, pos, ◌<ℤ◌};
 ghost use Rattle.integers.specs.Bounds.{Within};
 ghost use Rattle.rules.specs.Rules.{linear_of, cross_of, rational_of, doubled_of, forward_of, displacement_of};

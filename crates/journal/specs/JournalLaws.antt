@@ -180,9 +180,9 @@ kept_progress o (x ∷ y ∷ rest) a k =
 
 -- ---- the journal's report is that of its stage
 
-report_with : (o : Opening) (k : Bracket) (n : ℕ) → k.taken ≡ n → report_with o k n ≡ bracket_report o k
+report_with_lem : (o : Opening) (k : Bracket) (n : ℕ) → k.taken ≡ n → report_with o k n ≡ bracket_report o k
 unfolding bracket_report
-report_with o k n e = rw (← e)
+report_with_lem o k n e = rw (← e)
 
 module _ (o : Opening) (accepted : Accepted o) (journal : List Answer) (kept : Kept o journal) where
   leads : progress_of o (values journal) ≡ stage_of journal
@@ -196,7 +196,7 @@ module _ (o : Opening) (accepted : Accepted o) (journal : List Answer) (kept : K
       go [] e f = refl
       go (x ∷ []) e f = refl
       go (x ∷ y ∷ rest) e f =
-          report_with o (bracket_of x y rest) (length (x ∷ y ∷ rest))
+          report_with_lem o (bracket_of x y rest) (length (x ∷ y ∷ rest))
           (counts o accepted (values journal) (bracket_of x y rest) f ∙ length-map journal answer_value ∙ ap length e)
 
   -- over the list of its values the search gives the journal's report

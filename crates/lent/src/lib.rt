@@ -1,5 +1,7 @@
 // A search in the host's own memory, lent to a call: an opening or an answer is entered into it. Each function takes the search apart
 // and calls the step by value of crate `held` or `verdicts`; what a refusal leaves is the search as it was.
+#![tactic(auto)]
+
 ghost use Rattle.std.specs.Prelude.{◌≡◌};
 ghost use Rattle.held.specs.Held.{reopen_of, enter_of};
 ghost use Rattle.verdicts.specs.Judged.{verdict_of};

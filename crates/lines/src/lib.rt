@@ -1,5 +1,7 @@
 // A line in the making: bytes, texts, decimal numbers and fields, put one after the other. An inner crate: its callers see that there
 // is room.
+#![tactic(auto)]
+
 ghost use Rattle.std.specs.Prelude.{◌≡◌, ◌+◌, ◌≤◌, ◌<◌, length};
 ghost use Rattle.lines.specs.Decimal.{decimal_of, number_fields};
 ghost use Rattle.lines.specs.Line.{longest_line, put, written};
@@ -8,7 +10,7 @@ ghost use Rattle.lines.specs.Line.{longest_line, put, written};
 pub const LONGEST_LINE: usize = 50;
 
 // Its first `len` bytes are written.
-#[derive(Drop)]
+#[derive(Clone, Copy)]
 pub struct Line {
     pub bytes: [u8; LONGEST_LINE],
     pub len: usize,

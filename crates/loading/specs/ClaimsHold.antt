@@ -13,7 +13,7 @@ use Rattle.clean_sheets.specs.Clean.{clean_of}
 use Rattle.clean_sheets.specs.ClaimsHold.{clean_sheets}
 use Rattle.loading.specs.Loading.{load_opening, load_values, values_drawn, load_part, held_part, is_seed, load_of}
 use Rattle.loading.specs.Claims.{Stopped, Load, EveryLoad}
-use Rattle.loading.specs.DrawLaws.{seed_is, is_seed, draws, accepted}
+use Rattle.loading.specs.DrawLaws.{seed_is, is_seed_lem, draws, accepted}
 use Rattle.loading.specs.PartLaws.{values_length, drawn, most_fits, going_drawn, slots_full, fresh_part, part_stopped, goes}
 
 -- ---- of a seed in range
@@ -77,4 +77,4 @@ refused seed = go (is_seed seed) refl
     go false e = simp e
 
 pub every_load : EveryLoad
-every_load = record { refused = refused; each = load; draws = λ seed n e. is_seed _ (draws seed n (seed_is seed e)) }
+every_load = record { refused = refused; each = load; draws = λ seed n e. is_seed_lem _ (draws seed n (seed_is seed e)) }

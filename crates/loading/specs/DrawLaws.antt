@@ -20,8 +20,8 @@ pub record Seed (d : ℕ) : Type 0 where
 pub seed_is : (d : ℕ) → is_seed d ≡ true → Seed d
 seed_is d e = let h = both (leb 1 d) (leb d largest_seed) e in record { least = leb-true 1 d h.0; most = leb-true d largest_seed h.1 }
 
-pub is_seed : (d : ℕ) → Seed d → is_seed d ≡ true
-is_seed d h = simp (le-leb 1 d h.least, le-leb d largest_seed h.most)
+pub is_seed_lem : (d : ℕ) → Seed d → is_seed d ≡ true
+is_seed_lem d h = simp (le-leb 1 d h.least, le-leb d largest_seed h.most)
 
 abbrev modulus : ℕ
 modulus = 2147483647
@@ -34,9 +34,9 @@ no_multiple a b d e h l = omega arith
 no_zero : (d q : ℕ) → 16807 * d ≡ modulus * q → 1 ≤ d → d < modulus → ⊥
 no_zero d q e h l = no_multiple (11017 * d) (1407677000 * q) d (omega arith) h l
 
-next_draw : (d : ℕ) → Seed d → Seed (next_draw d)
+next_draw_lem : (d : ℕ) → Seed d → Seed (next_draw d)
 unfolding next_draw
-next_draw d h = record { least = least (16807 * d % modulus) refl; most = omega (arith, mod-lt (16807 * d) {m = modulus} (omega arith)) }
+next_draw_lem d h = record { least = least (16807 * d % modulus) refl; most = omega (arith, mod-lt (16807 * d) {m = modulus} (omega arith)) }
   where
     least : (r : ℕ) → 16807 * d % modulus ≡ r → 1 ≤ r
     least zero e = absurd (no_zero d (16807 * d / modulus) (omega (arith, div-add-mod' (16807 * d) modulus)) h.least (omega (arith, h.most)))
@@ -45,7 +45,7 @@ next_draw d h = record { least = least (16807 * d % modulus) refl; most = omega 
 pub draws : (seed n : ℕ) → Seed seed → Seed (draw_of seed n)
 unfolding draw_of
 draws seed zero h = h
-draws seed (suc n) h = next_draw (draw_of seed n) (draws seed n h)
+draws seed (suc n) h = next_draw_lem (draw_of seed n) (draws seed n h)
 
 -- ---- the opening is accepted
 

@@ -63,9 +63,9 @@ openings_work = refl
 
 -- ---- values
 
-values_drawn : map drawn_value (0 ∷ 10000 ∷ 20000 ∷ 20001 ∷ 2147483646 ∷ []) ≡ neg_ℤ (pos 10000) ∷ pos 0 ∷ pos 10000 ∷ neg_ℤ (pos 10000) ∷ pos 6278 ∷ []
+values_drawn_lem : map drawn_value (0 ∷ 10000 ∷ 20000 ∷ 20001 ∷ 2147483646 ∷ []) ≡ neg_ℤ (pos 10000) ∷ pos 0 ∷ pos 10000 ∷ neg_ℤ (pos 10000) ∷ pos 6278 ∷ []
 unfolding drawn_value
-values_drawn = refl
+values_drawn_lem = refl
 
 -- a first value, the value drawn at a place, and what it becomes
 record Valued : Type 0 where

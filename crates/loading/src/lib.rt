@@ -1,4 +1,5 @@
 // A trial load that anyone can repeat: the numbers of its rules. There is no function here: see specs/.
+#![tactic(auto)]
 
 // The generator of Park and Miller: each draw is the last times the one, modulo the other.
 pub const MULTIPLIER: u64 = 16807;

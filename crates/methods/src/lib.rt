@@ -1,4 +1,6 @@
 // What an opening asks for: its method, the tolerance at a setting, and what the method uses at each streak (rule 8 of document 01).
+#![tactic(auto)]
+
 ghost use Rattle.std.specs.Prelude.{◌≡◌};
 ghost use Rattle.rules.specs.Rules.{method_of, tolerance_at, step_of};
 

@@ -1,12 +1,14 @@
 // Modbus requests and replies, as far as they know no search: words, the checks of a request by itself, exceptions and the echo of a write. An
 // inner crate: some functions require what their callers have checked.
+#![tactic(auto)]
+
 ghost use Rattle.std.specs.Prelude.{◌≡◌, ◌+◌, ◌<◌, [], length};
 ghost use Rattle.registers.specs.Exchange.{word_at, signed_of, read_fault, top_bit_set, exception_reply, echo_reply};
 ghost use Rattle.registers.specs.Inner.{form_fault, Writable};
 ghost use Rattle.modbus.specs.Reply.{Holds};
 
 // A reply: its first `len` bytes.
-#[derive(Drop)]
+#[derive(Clone, Copy)]
 pub struct Reply {
     pub bytes: [u8; registers::LONGEST_REPLY],
     pub len: usize,

@@ -1,4 +1,6 @@
 // The calls on a search with the report in plain numbers, by value: what the interface for C does to the host's own search; and the trial load.
+#![tactic(auto)]
+
 ghost use Rattle.std.specs.Prelude.{◌≡◌};
 ghost use Rattle.rules.specs.Rows.{row_of};
 ghost use Rattle.held.specs.Held.{reopen_of, held_report};
@@ -15,14 +17,14 @@ use rules::{Opening, Row};
 
 // A report as plain numbers, and beside it the search as it then is.
 #[repr(C)]
-#[derive(Drop)]
+#[derive(Clone, Copy)]
 pub struct Answered {
     pub report: Row,
     pub search: Search,
 }
 
 // What an answer does to a search, with the report as plain numbers: the count that the search then has, and the value of one slot.
-#[derive(Drop)]
+#[derive(Clone, Copy)]
 pub struct NumberedVerdict {
     pub report: Row,
     pub count: u32,

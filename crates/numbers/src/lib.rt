@@ -1,4 +1,6 @@
 // The numbers of a text, in one pass: the byte at a place, and an optional minus and digits from a place on.
+#![tactic(auto)]
+
 ghost use Rattle.std.specs.Prelude.{◌≡◌, ◌≤◌, get_or};
 ghost use Rattle.forms.specs.Number.{signed};
 ghost use Rattle.scanning.specs.Scan.{digit_at, digits_at, number_at};

@@ -1,6 +1,8 @@
 // old_default: reads one old sheet from standard input, in which method 0 stood for M, and writes its clean sheet to standard output with method 1
 // in place of 0, or for a sheet that was refused then the record of that refusal; nothing more. Where the input cannot be read, or the sheet
 // cannot be written, it says so in words on standard error.
+#![tactic(auto)]
+
 use replies::Reply;
 
 fn main() {

@@ -1,4 +1,6 @@
 // Old sheets, which were asked with M for the house default: one is read with 0 as M, and written clean with method 1 in place of 0.
+#![tactic(auto)]
+
 ghost use Rattle.std.specs.Prelude.{◌≡◌, false, ◌≤◌, length};
 ghost use Rattle.rules.specs.Search.{is_refusal};
 ghost use Rattle.printing.specs.Printed.{placed, placed_length};

@@ -1,4 +1,6 @@
 // The dryer panel: a Modbus server's answer to one request, over a held search.
+#![tactic(auto)]
+
 ghost use Rattle.std.specs.Prelude.{◌≡◌};
 ghost use Rattle.registers.specs.Registers.{called_for};
 ghost use Rattle.registers.specs.Exchange.{exchange_of, exchanged_of, reply_buffer};
@@ -11,7 +13,7 @@ use modbus::Reply;
 use registers::{Exchanged, Replied};
 
 // A reply, and beside it the search as it then is.
-#[derive(Drop)]
+#[derive(Clone, Copy)]
 struct Told {
     reply: Reply,
     search: Search,

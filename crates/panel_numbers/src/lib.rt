@@ -1,4 +1,6 @@
 // The panel with what it tells as plain numbers, by value: what the interface for C does to the host's own search.
+#![tactic(auto)]
+
 ghost use Rattle.std.specs.Prelude.{◌≡◌};
 ghost use Rattle.registers.specs.Exchange.{exchanged_of, reply_buffer};
 ghost use Rattle.panel_numbers.specs.Numbers.{replied_row_of, exchanged_row_of};
@@ -8,7 +10,7 @@ use held::Search;
 use registers::Replied;
 
 // What is told of a request as plain numbers, and beside it the search as it then is.
-#[derive(Drop)]
+#[derive(Clone, Copy)]
 pub struct ExchangedRow {
     pub replied: WrittenRow,
     pub search: Search,

@@ -26,9 +26,9 @@ unfolding record_of record_with number_fields decimal_of decimal_within
 refuse = refl
 
 -- the bound is reached
-longest_record : length (record_of (Report.Stop 4294967295 4294967295 4294967295 4294967295)) ≡ longest_record
+longest_record_lem : length (record_of (Report.Stop 4294967295 4294967295 4294967295 4294967295)) ≡ longest_record
 unfolding record_of record_with number_fields decimal_of decimal_within
-longest_record = refl
+longest_record_lem = refl
 
 -- a text of two bytes in a buffer of three, of two and of one
 with_room : placed (7 ∷ 8 ∷ []) (1 ∷ 2 ∷ 3 ∷ []) ≡ 7 ∷ 8 ∷ 3 ∷ []

@@ -1,4 +1,6 @@
 // The report as one RFC 4180 record of document 01: the word next, stop or refuse, then its numbers, then CR LF.
+#![tactic(auto)]
+
 ghost use Rattle.std.specs.Prelude.{◌≡◌, ◌≤◌, length};
 ghost use Rattle.lines.specs.Line.{Holds};
 ghost use Rattle.printing.specs.Printed.{longest_record, record_with, record_of, placed, placed_length};

@@ -1,5 +1,7 @@
 // What the programs share: one sheet is read from standard input, and one reply written to standard output, nothing more. Where the input
 // cannot be read, or the reply cannot be written, that is said in words on standard error.
+#![tactic(auto)]
+
 ghost use Rattle.programs.specs.Ran.{Ran};
 
 use replies::Reply;

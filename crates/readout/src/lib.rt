@@ -1,5 +1,7 @@
 // What the panel reads: the registers of a report, and the reply to a read of some of them. An inner crate: some functions require what their
 // callers have checked.
+#![tactic(auto)]
+
 ghost use Rattle.std.specs.Prelude.{◌≡◌, ◌+◌, ◌*◌, ◌≤◌, length};
 ghost use Rattle.held.specs.HeldLaws.{WithinLimits};
 ghost use Rattle.registers.specs.Registers.{registers_at};

@@ -1,5 +1,7 @@
 // The table "Refused, by place of check" of document 01, in code: the first refusal of an opening and of an answer, by its number, or 0
 // where none applies; and whether a report is a refusal.
+#![tactic(auto)]
+
 ghost use Rattle.std.specs.Prelude.{◌≡◌, ◌||◌};
 ghost use Rattle.rules.specs.Rules.{highest};
 ghost use Rattle.rules.specs.Search.{is_refusal};

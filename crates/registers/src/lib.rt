@@ -1,4 +1,6 @@
 // The dryer panel: its registers, and what is told of a reply. There is no function here: see specs/.
+#![tactic(auto)]
+
 use held::Search;
 
 // How many registers there are, the one that shows the point called for, and the one that takes a value.
@@ -31,14 +33,14 @@ pub const ILLEGAL_VALUE: u8 = 3;
 pub const DEVICE_FAILURE: u8 = 4;
 
 // What is told of a request: the length of the reply that stands in the lent buffer, or a refusal.
-#[derive(Drop)]
+#[derive(Clone, Copy)]
 pub enum Replied {
     Reply { length: u32 },
     Refused { number: u32, place: u32 },
 }
 
 // The same, and beside it the search as it then is.
-#[derive(Drop)]
+#[derive(Clone, Copy)]
 pub struct Exchanged {
     pub replied: Replied,
     pub search: Search,

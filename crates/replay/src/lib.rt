@@ -1,4 +1,6 @@
 // A run of calls of both kinds, made for real: what they report and the search that they leave are those of the claim about whole runs.
+#![tactic(auto)]
+
 ghost use Rattle.replay.specs.Replay.{Replays};
 ghost use Rattle.replay.specs.Calls.{CallsMade};
 
@@ -9,7 +11,7 @@ use rules::{Opening, Report};
 pub const NUMBERS_EACH: usize = runs::NUMBERS_EACH;
 
 // What a run tells: of the opening, its first point or its refusal; and the search after the calls.
-#[derive(Drop)]
+#[derive(Clone, Copy)]
 pub struct Replayed {
     pub opened: Report,
     pub search: Search,

@@ -1,4 +1,6 @@
 // What a program replies to an input, from what was read of it. Crate `programs` has the buffers and writes the reply.
+#![tactic(auto)]
+
 ghost use Rattle.input.specs.Input.{Within};
 ghost use Rattle.replies.specs.Reply.{Replied, Answers};
 
@@ -8,7 +10,7 @@ use input::Filled;
 pub const ENOUGH: usize = forms::LONGEST_TEXT + 1;
 
 // What is replied to a sheet: the record of its report, the sheet cleaned, or the old sheet changed over.
-#[derive(Drop)]
+#[derive(Clone, Copy)]
 pub enum Reply {
     Record,
     CleanSheet,

@@ -1,4 +1,6 @@
 // Reports and quotes as plain numbers, for C and for lists of numbers.
+#![tactic(auto)]
+
 ghost use Rattle.std.specs.Prelude.{◌≡◌};
 ghost use Rattle.rules.specs.Rows.{row_of, quotation_of};
 

@@ -43,9 +43,9 @@ above_half : displacement_of 3 21 (over (pos 85) (pos 8)) ≡ 10
 unfolding displacement_of forward_of
 above_half = refl
 
-no_estimate : displacement_of 3 21 no_estimate ≡ 10
+no_estimate_lem : displacement_of 3 21 no_estimate ≡ 10
 unfolding displacement_of forward_of
-no_estimate = refl
+no_estimate_lem = refl
 
 -- ---- Rules 4 and 5
 

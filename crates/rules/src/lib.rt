@@ -1,4 +1,5 @@
 // The types of the search, of which document 01 speaks. There is no function here: see specs/.
+#![tactic(auto)]
 
 // The limits: of a point, of the tolerance, of the share, of a value above and below 0, and of the answers that a held search keeps.
 pub const HIGHEST: u32 = 60000;
@@ -69,7 +70,7 @@ pub const LIST_TOO_SHORT: u32 = 22;
 // An opening: the method, the first end x0, the second end x1, the tolerance τ, and the share p of a setting that is added to it, in parts
 // per thousand. A sheet may hold any of them out of range.
 #[repr(C)]
-#[derive(Drop)]
+#[derive(Clone, Copy)]
 pub struct Opening {
     pub method: i32,
     pub first: i32,
@@ -80,21 +81,21 @@ pub struct Opening {
 
 // An answer: the point of a trial, and the value that came out. Either may be out of range.
 #[repr(C)]
-#[derive(Drop)]
+#[derive(Clone, Copy)]
 pub struct Answer {
     pub point: i32,
     pub value: i32,
 }
 
 // Algorithms M and R of Bus and Dekker.
-#[derive(Drop)]
+#[derive(Clone, Copy)]
 pub enum Method {
     M,
     R,
 }
 
 // A point with its value F(p).
-#[derive(Drop)]
+#[derive(Clone, Copy)]
 pub struct Sample {
     pub point: u32,
     pub value: i32,
@@ -102,7 +103,7 @@ pub struct Sample {
 
 // What a search knows from its second answer on. b is `better`, c `other`, a `previous`, d `third`; `last` is the point answered
 // last, `streak` is s, and `taken` counts the answers.
-#[derive(Drop)]
+#[derive(Clone, Copy)]
 pub struct Bracket {
     pub better: Sample,
     pub other: Sample,
@@ -114,14 +115,14 @@ pub struct Bracket {
 }
 
 // The exact fraction u = num / den, of either sign. Where den is 0, there is no estimate.
-#[derive(Drop)]
+#[derive(Clone, Copy)]
 pub struct Fraction {
     pub num: i64,
     pub den: i64,
 }
 
 // What a step takes its displacement from.
-#[derive(Drop)]
+#[derive(Clone, Copy)]
 pub enum Step {
     Linear,
     Rational,
@@ -130,7 +131,7 @@ pub enum Step {
 }
 
 // Where a search stands after the answers so far.
-#[derive(Drop)]
+#[derive(Clone, Copy)]
 pub enum Progress {
     Begun,
     First { value: i32 },
@@ -139,7 +140,7 @@ pub enum Progress {
 }
 
 // What is told of a search: the next point, the stop, or a refusal.
-#[derive(Drop)]
+#[derive(Clone, Copy)]
 pub enum Report {
     Next {
         point: u32,
@@ -175,7 +176,7 @@ pub const SURVEYED_KIND: u32 = 7;
 
 // A report as plain numbers, where no enum can stand: `kind` says which of the three it is, and a number that its kind has not is 0.
 #[repr(C)]
-#[derive(Drop)]
+#[derive(Clone, Copy)]
 pub struct Row {
     pub kind: u32,
     pub point: u32,
@@ -188,7 +189,7 @@ pub struct Row {
 }
 
 // What is told of an opening before the first trial: t and the most answers that may be needed, or a refusal.
-#[derive(Drop)]
+#[derive(Clone, Copy)]
 pub enum Quote {
     Quoted { t: u32, most: u32 },
     Refused { number: u32, place: u32 },
@@ -196,7 +197,7 @@ pub enum Quote {
 
 // A quote as plain numbers: `kind` says whether it is a quote or a refusal, and a number that its kind has not is 0.
 #[repr(C)]
-#[derive(Drop)]
+#[derive(Clone, Copy)]
 pub struct Quotation {
     pub kind: u32,
     pub t: u32,

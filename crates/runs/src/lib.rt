@@ -1,4 +1,6 @@
 // The steps of a run written down in lists: how many calls there are, and the call at a place, with its report in its place among the rows.
+#![tactic(auto)]
+
 ghost use Rattle.std.specs.Prelude.{◌≡◌, min};
 ghost use Rattle.runs.specs.Listed.{shortest, Before, CallMade};
 

@@ -1,4 +1,6 @@
 // The search over a list of values: the report on a lent slice of any length, and the quote. The walk is that of crate `walk`.
+#![tactic(auto)]
+
 ghost use Rattle.std.specs.Prelude.{◌≡◌, ◌≤◌};
 ghost use Rattle.interpolation.specs.Ranges.{widest};
 ghost use Rattle.rules.specs.Rules.{allowed};

@@ -1,4 +1,6 @@
 // The season report: a run of sheet outcomes is read once, and each outcome is entered into the tally of its method.
+#![tactic(auto)]
+
 ghost use Rattle.std.specs.Prelude.{◌≡◌, false, [], ◌∷◌, ◌+◌, ◌*◌, ◌≤◌, min, max, length};
 ghost use Rattle.seasons.specs.Season.{other, outcomes_of, tally_of, tallies_of, most_outcomes, misshapen, no_tally, season_of};
 ghost use Rattle.seasons.specs.Claims.{added, EverySeason};

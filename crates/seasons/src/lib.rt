@@ -1,4 +1,5 @@
 // The season report as types: the outcomes of sheets, what is told of those of one method, and the report. There is no function here: see specs/.
+#![tactic(auto)]
 
 // The most outcomes of a run, and the numbers of each.
 pub const MOST_OUTCOMES: usize = 10000;
@@ -19,7 +20,7 @@ pub const TALLIES: usize = 4;
 
 // The outcome of a sheet, in the order of a run's numbers: its kind, the method, the answers taken and the most answers quoted.
 #[repr(C)]
-#[derive(Drop)]
+#[derive(Clone, Copy)]
 pub struct Outcome {
     pub kind: u16,
     pub method: u16,
@@ -30,7 +31,7 @@ pub struct Outcome {
 // What is told of the outcomes of one method: the number of each kind; of those not refused the total answers, the total quoted, and the largest
 // number of answers in one search, 0 for none.
 #[repr(C)]
-#[derive(Drop)]
+#[derive(Clone, Copy)]
 pub struct Tally {
     pub stopped: u32,
     pub unfinished: u32,
@@ -41,14 +42,14 @@ pub struct Tally {
 }
 
 // How many outcomes a run has, or its refusal.
-#[derive(Drop)]
+#[derive(Clone, Copy)]
 pub enum Counted {
     Outcomes { count: u32 },
     Refused { number: u32, place: u32 },
 }
 
 // The report on a run: a tally for each of methods 0, 1 and 2 and one for any other. Beside a refusal every number in them is 0.
-#[derive(Drop)]
+#[derive(Clone, Copy)]
 pub struct Season {
     pub counted: Counted,
     pub tallies: [Tally; TALLIES],
@@ -56,7 +57,7 @@ pub struct Season {
 
 // The same as plain numbers: `kind` says whether the run was counted or refused, and a number that its kind has not is 0.
 #[repr(C)]
-#[derive(Drop)]
+#[derive(Clone, Copy)]
 pub struct SeasonRow {
     pub kind: u32,
     pub outcomes: u32,

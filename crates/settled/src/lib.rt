@@ -1,4 +1,6 @@
 // The outcome of what a sheet was read as, by value: a refusal, or the report on the answers beside the held search that the sheet is.
+#![tactic(auto)]
+
 ghost use Rattle.std.specs.Prelude.{◌≡◌, ◌≤◌, length, take};
 ghost use Rattle.rules.specs.Rules.{slots};
 ghost use Rattle.rules.specs.Refusals.{opening_refusal};

@@ -1,4 +1,6 @@
 // Trial sheets: the outcome of a text, what is told of it in short, and its report as bytes.
+#![tactic(auto)]
+
 ghost use Rattle.std.specs.Prelude.{◌≡◌};
 ghost use Rattle.printing.specs.Printed.{record_of, placed, placed_length};
 ghost use Rattle.forms.specs.Entries.{entries_of};
@@ -9,7 +11,7 @@ use held::Entered;
 use rules::{Opening, Report};
 
 // What is told of a text in short: whether it is read, the opening that is read, every number 0 where none is, and the report.
-#[derive(Drop)]
+#[derive(Clone, Copy)]
 pub struct Brief {
     pub form: Form,
     pub opening: Opening,

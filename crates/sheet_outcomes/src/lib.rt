@@ -1,4 +1,6 @@
 // The outcome of a trial sheet as the four numbers of a season's run.
+#![tactic(auto)]
+
 ghost use Rattle.std.specs.Prelude.{◌≡◌};
 ghost use Rattle.rules.specs.Search.{quote_of};
 ghost use Rattle.forms.specs.Entries.{entries_of};

@@ -44,9 +44,9 @@ three_fields : (m x y rest : List ℕ)
 three_fields m x y rest = simp append_assoc
 
 -- what stands before the answers, after the first three fields
-tail_text : (t p : ℤ) (rest : List ℕ) → number_text t ++ (share_text p ++ cr ∷ lf ∷ rest) ≡ tail_text t p ++ rest
+tail_text_lem : (t p : ℤ) (rest : List ℕ) → number_text t ++ (share_text p ++ cr ∷ lf ∷ rest) ≡ tail_text t p ++ rest
 unfolding tail_text
-tail_text t p rest = go (eq_z p (pos 0))
+tail_text_lem t p rest = go (eq_z p (pos 0))
   where
     go : (b : Bool)
         → number_text t ++ (cond b [] (comma ∷ number_text p) ++ cr ∷ lf ∷ rest) ≡ cond b (last_text t) (field_text t comma ++ last_text p) ++ rest
@@ -67,7 +67,7 @@ sheet_records o answers =
     append_assoc (ends ++ comma ∷ t) p (cr ∷ lf ∷ rest)
     ∙ append_assoc ends (comma ∷ t) (p ++ cr ∷ lf ∷ rest)
     ∙ three_fields m x y (t ++ (p ++ cr ∷ lf ∷ rest))
-    ∙ ap (λ (l : List ℕ). three ++ l) (tail_text o.tolerance o.share rest)
+    ∙ ap (λ (l : List ℕ). three ++ l) (tail_text_lem o.tolerance o.share rest)
     ∙ sym (append_assoc three (tail_text o.tolerance o.share) rest)
 
 pub answer_record : (x : ℕ) (v : ℤ) (answers : List Answer)

@@ -1,5 +1,7 @@
 // The text of a clean sheet, put into a buffer piece by piece: numbers, fields and records. Each function puts its piece from the place `at`
 // on and answers the place behind it. An inner crate: its callers see that there is room.
+#![tactic(auto)]
+
 ghost use Rattle.std.specs.Prelude.{◌+◌, ◌≤◌, length};
 ghost use Rattle.lines.specs.Decimal.{decimal_of};
 ghost use Rattle.clean_sheets.specs.Clean.{number_text};

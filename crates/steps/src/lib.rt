@@ -1,4 +1,6 @@
 // What a search does next: the stop of rule 2 of document 01, and the step of rule 8 with the point that it calls for.
+#![tactic(auto)]
+
 ghost use Rattle.std.specs.Prelude.{◌≡◌, ◌≤◌};
 ghost use Rattle.interpolation.specs.Ranges.{widest};
 ghost use Rattle.rules.specs.Rules.{stopped_of, reach_of, offset_of, next_of};

@@ -1,4 +1,6 @@
 // A survey of the whole range: the neighbouring pairs of values with a zero or negative product. See surveying/specs/Survey.antt.
+#![tactic(auto)]
+
 ghost use Rattle.std.specs.Prelude.{◌≡◌, ◌++◌, ◌+◌, ◌≤◌, ◌<◌, pos, length, drop};
 ghost use Rattle.surveying.specs.Survey.{crosses_at, crossings_of, lower_points, is_misplaced, large_at, surveyed_of, list_of};
 ghost use Rattle.surveying.specs.Claims.{Surveyable, EverySurvey};

@@ -1,4 +1,5 @@
 // A survey of the whole range as types. There is no function here: see specs/.
+#![tactic(auto)]
 
 // The fewest and the most values of a survey.
 pub const FEWEST: usize = 2;
@@ -6,7 +7,7 @@ pub const FEWEST: usize = 2;
 pub const MOST: usize = 600;
 
 // What is told of a survey: how many pairs were found, or a refusal.
-#[derive(Drop)]
+#[derive(Clone, Copy)]
 pub enum Surveyed {
     Found { pairs: u32 },
     Refused { number: u32, place: u32 },
@@ -14,7 +15,7 @@ pub enum Surveyed {
 
 // The same as plain numbers: `kind` says whether the pairs were found or the survey refused, and a number that its kind has not is 0.
 #[repr(C)]
-#[derive(Drop)]
+#[derive(Clone, Copy)]
 pub struct SurveyedRow {
     pub kind: u32,
     pub pairs: u32,

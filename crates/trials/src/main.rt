@@ -2,6 +2,8 @@
 // reader of sheets; and, where its form is right, by the search over the list of its values, by held searches into which its answers are
 // entered in turn, by value and into one's own, and by a replay of the same answers in a mixture of both kinds. After them it prints what
 // is told of searches that hold anything, and of a run of calls to a dispatcher.
+#![tactic(auto)]
+
 ghost use Rattle.std.specs.Prelude.{◌≤◌, ◌≡◌, length};
 ghost use Rattle.rules.specs.Rules.{slots};
 

@@ -1,4 +1,6 @@
 // Whose turn the oven is: counting round from the one after the last served, the first dryer whose search is accepted and unfinished.
+#![tactic(auto)]
+
 ghost use Rattle.std.specs.Prelude.{◌≡◌, ◌<◌};
 ghost use Rattle.dispatching.specs.Dispatching.{dryers, search_at, is_next, unfinished, start_after, turn_of};
 

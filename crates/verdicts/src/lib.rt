@@ -1,5 +1,7 @@
 // Verdicts: what an answer does to a search, over the parts of the search. An inner crate, which knows no search as a whole: it is lent
 // the slots, and its callers store what changes.
+#![tactic(auto)]
+
 ghost use Rattle.std.specs.Prelude.{◌≡◌, length};
 ghost use Rattle.rules.specs.Rules.{slots};
 ghost use Rattle.rules.specs.Search.{answers_of, report_at};
@@ -8,7 +10,7 @@ ghost use Rattle.verdicts.specs.Judged.{standing_by, verdict_of};
 use rules::{Opening, Report};
 
 // What an answer does to a search: the report, the count that it then has, and the value that a slot then has.
-#[derive(Drop)]
+#[derive(Clone, Copy)]
 pub struct Verdict {
     pub report: Report,
     pub count: u32,

@@ -1,5 +1,7 @@
 // The walk over answers: the one loop that takes them in turn. Every report on answers comes from here, over a list of values, over the
 // answers of a sheet, and over held values with one offered answer.
+#![tactic(auto)]
+
 ghost use Rattle.std.specs.Prelude.{◌≡◌, length};
 ghost use Rattle.rules.specs.Rules.{lower_of, upper_of};
 ghost use Rattle.rules.specs.Search.{progress_of, answers_of, report_at};

@@ -1,4 +1,6 @@
 // The sheet written back: the clean sheet of a held search, in a lent buffer.
+#![tactic(auto)]
+
 ghost use Rattle.std.specs.Prelude.{◌≡◌, false, ◌≤◌, length, take};
 ghost use Rattle.rules.specs.Search.{is_refused, is_refusal, begin_of, progress_of};
 ghost use Rattle.held.specs.Held.{held_report};

@@ -1,5 +1,7 @@
 // zeroin: reads one trial sheet from standard input and writes one record to standard output, nothing more. Where the input cannot be
 // read, or the record cannot be written, it says so in words on standard error.
+#![tactic(auto)]
+
 use replies::Reply;
 
 fn main() {

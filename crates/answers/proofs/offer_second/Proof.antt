@@ -13,10 +13,10 @@ use borrow.Author.Rules.{rules}
 use Rattle.answers.proofs.offer_second.Statement.{statement}
 use Rattle.answers.proofs.offer_second.Tie as tie
 
-abbrev refusal_of : tie.Start → ℕ
-refusal_of s = answer_refusal false s.args.other (too_large s.args.v) (same_side s.args.u s.args.v)
+abbrev refusal_of_lem : tie.Start → ℕ
+refusal_of_lem s = answer_refusal false s.args.other (too_large s.args.v) (same_side s.args.u s.args.v)
 
-refusal : (c : tie.After-answer-refusal) → c.answer-refusal.result ≡ refusal_of c.before.before.before
+refusal : (c : tie.After-answer-refusal) → c.answer-refusal.result ≡ refusal_of_lem c.before.before.before
 refusal c =
     let s = c.before.before.before in
     c.answer-refusal.ensures ∙ rw (c.before.before.too_large.ensures, c.before.same-side.ensures, read s.ranges.u, read s.ranges.v)

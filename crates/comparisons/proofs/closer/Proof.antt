@@ -18,7 +18,7 @@ returns c =
     let s = c.before.before.before.before.args in
     let f : SFits w32 s.p.value = search rules in
     let g : SFits w32 s.q.value = search rules in
-    rw (c.before.before.magnitude.ensures, c.magnitude2.ensures, read f, read g)
+    rw (c.before.before.magnitude.ensures, c.magnitude-2.ensures, read f, read g)
 
 pub closer_spec : {M : Type 1} → statement M
 closer_spec = tie.close (tie.spec magnitude-requires magnitude-requires-2 returns)

@@ -12,10 +12,10 @@ use borrow.Author.Rules.{rules}
 use Rattle.comparisons.proofs.differs.Statement.{statement}
 use Rattle.comparisons.proofs.differs.Tie as tie
 
-cast-result : tie.Need-overflow-cast-result
+cast-result : tie.Need-overflow_cast-result
 cast-result c = widens c.ranges.x
 
-cast-result-2 : tie.Need-overflow-cast-result-2
+cast-result-2 : tie.Need-overflow_cast-result-2
 cast-result-2 c = search rules
 
 returns : tie.Need-returns

@@ -12,28 +12,28 @@ use Rattle.comparisons.proofs.magnitude.Tie as tie
 abbrev n : tie.Start → Formula
 n s = wide s.args.v s.ranges.v (fits_within s.ranges.v) tt
 
-cast-n : tie.Need-overflow-cast-n
+cast-n : tie.Need-overflow_cast-n
 cast-n c = widens c.ranges.v
 
-sub-result : tie.Need-overflow-sub-result
+sub-result : tie.Need-overflow_sub-result
 sub-result c = asks (neg (n c.before)) tt
 
-cast-result : tie.Need-overflow-cast-result
+cast-result : tie.Need-overflow_cast-result
 cast-result c =
     let s = c.before in
     rw (reads (neg (n s)) tt)
-    (neg_of_negative s.args.v (tests lt_z (n s) (literal 0 tt) tt ∙ c.if1.true), omega (arith, within_neg (fits_within s.ranges.v)))
+    (neg_of_negative s.args.v (tests lt_z (n s) (literal 0 tt) tt ∙ c.if-n-lt0.true), omega (arith, within_neg (fits_within s.ranges.v)))
 
-cast-result-2 : tie.Need-overflow-cast-result-2
+cast-result-2 : tie.Need-overflow_cast-result-else-n-lt0
 cast-result-2 c =
     let s = c.before in
     rw (reads (n s) tt)
-    (not_negative s.args.v (tests lt_z (n s) (literal 0 tt) tt ∙ c.if1.false), omega (arith, fits_within s.ranges.v))
+    (not_negative s.args.v (tests lt_z (n s) (literal 0 tt) tt ∙ c.if-n-lt0.false), omega (arith, fits_within s.ranges.v))
 
-returns : tie.Need-returns
+returns : tie.Need-returns-then-n-lt0
 returns c = rw (reads (neg (n c.before)) tt) (abs_neg c.before.args.v)
 
-returns-2 : tie.Need-returns-2
+returns-2 : tie.Need-returns-else-n-lt0
 returns-2 c = rw (reads (n c.before) tt)
 
 pub magnitude_spec : {M : Type 1} → statement M

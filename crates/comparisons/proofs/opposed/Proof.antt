@@ -11,13 +11,13 @@ abbrev product : tie.Start → Formula
 product s =
     mul (wide s.args.v s.ranges.v (fits_within s.ranges.v) tt) (wide s.args.w s.ranges.w (fits_within s.ranges.w) tt)
 
-cast-result : tie.Need-overflow-cast-result
+cast-result : tie.Need-overflow_cast-result
 cast-result c = widens c.ranges.v
 
-cast-result-2 : tie.Need-overflow-cast-result-2
+cast-result-2 : tie.Need-overflow_cast-result-2
 cast-result-2 c = widens c.ranges.w
 
-mul-result : tie.Need-overflow-mul-result
+mul-result : tie.Need-overflow_mul-result
 mul-result c = asks (product c) tt
 
 returns : tie.Need-returns

@@ -45,11 +45,11 @@ read c = ap (judged (read-start c).args.t1) (sym c.enum_told.given.1)
 abbrev form_of : tie.After-opening-refusal → tie.After-enum-told
 form_of c = c.before.before
 
-abbrev refusal_of : tie.After-told → tie.After-opening-refusal
-refusal_of c = c.before.before.before.before.before.before.before.before
+abbrev refusal_of_lem : tie.After-told → tie.After-opening-refusal
+refusal_of_lem c = c.before.before.before.before.before.before.before.before
 
 abbrev start_of : tie.After-told → tie.Start
-start_of c = read-start (form_of (refusal_of c))
+start_of c = read-start (form_of (refusal_of_lem c))
 
 told_is : (c : tie.After-told) → c.told.result ≡ report_at (start_of c).args.t1.opening (leads_to (start_of c).args.t1)
 told_is c = c.told.ensures
@@ -96,7 +96,7 @@ returns-3 c =
     ∙ ap (settled_by e) (told_is t)
     ∙ settled_is e (leads_to e)
     ∙ outcome_accepted e (sym p.before.opening-refusal.ensures ∙ p.if1.false)
-    ∙ read (form_of (refusal_of t))
+    ∙ read (form_of (refusal_of_lem t))
 
 pub judge_spec : {M : Type 1} → statement M
 judge_spec =

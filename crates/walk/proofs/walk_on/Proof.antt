@@ -69,11 +69,11 @@ other_from_at l =
 other_is : (c : tie.After-answer-refusal invariant-loop decreases-loop) → c.before.before.other_at.result ≡ other_from_at (at-loop c)
 other_is c = c.before.before.other_at.ensures ∙ ap (other_than _ _ _) (point_is c) ∙ other_going _ _ _ _ _ (going (else-of c))
 
-abbrev refusal_of : tie.After-answer-refusal invariant-loop decreases-loop → ℕ
-refusal_of c =
+abbrev refusal_of_lem : tie.After-answer-refusal invariant-loop decreases-loop → ℕ
+refusal_of_lem c =
     answer_refusal (stopped_of (start_of c).args.o (at-loop c).loop.k) c.before.before.other_at.result (too_large (value_of c)) false
 
-refusal : (c : tie.After-answer-refusal invariant-loop decreases-loop) → c.answer-refusal.result ≡ refusal_of c
+refusal : (c : tie.After-answer-refusal invariant-loop decreases-loop) → c.answer-refusal.result ≡ refusal_of_lem c
 refusal c =
     c.answer-refusal.ensures
     ∙ ap₂ (λ (stopped large : Bool). answer_refusal stopped c.before.before.other_at.result large false)
