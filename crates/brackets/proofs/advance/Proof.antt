@@ -6,7 +6,7 @@ use borrow.Author.Rules.{rules}
 use Rattle.brackets.proofs.advance.Statement.{statement}
 use Rattle.brackets.proofs.advance.Tie as tie
 
-partner-requires : tie.Need-partner-requires
+partner-requires : tie.Need-partner-p-requires
 partner-requires c κs = search rules
 
 closer-requires : tie.Need-closer-requires
@@ -15,22 +15,22 @@ closer-requires c κs = search rules
 renewed-requires : tie.Need-renewed-requires
 renewed-requires c κs = search rules
 
-renewed-requires-2 : tie.Need-renewed-requires-2
+renewed-requires-2 : tie.Need-renewed-requires-else-closer
 renewed-requires-2 c κs = search rules
 
-returns : tie.Need-returns
+returns : tie.Need-returns-then-closer
 unfolding advance_of
 returns c =
     let p = c.before.before in
-    simp (rw p.before.partner.ensures at (sym p.closer.ensures) ∙ c.before.if1.true)
-    (c.renewed.ensures ∙ rw p.before.partner.ensures)
+    simp (rw p.before.partner-p.ensures at (sym p.closer.ensures) ∙ c.before.if-closer.true)
+    (c.renewed.ensures ∙ rw p.before.partner-p.ensures)
 
-returns-2 : tie.Need-returns-2
+returns-2 : tie.Need-returns-else-closer
 unfolding advance_of
 returns-2 c =
     let p = c.before.before in
-    simp (rw p.before.partner.ensures at (sym p.closer.ensures) ∙ c.before.if1.false)
-    (c.renewed2.ensures ∙ rw p.before.partner.ensures)
+    simp (rw p.before.partner-p.ensures at (sym p.closer.ensures) ∙ c.before.if-closer.false)
+    (c.renewed-else-closer.ensures ∙ rw p.before.partner-p.ensures)
 
 pub advance_spec : {M : Type 1} → statement M
 advance_spec =

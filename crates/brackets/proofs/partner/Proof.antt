@@ -24,21 +24,21 @@ test c =
 opposed-requires : tie.Need-opposed-requires
 opposed-requires c κs = search rules
 
-returns : tie.Need-returns
+returns : tie.Need-returns-then-opposed
 unfolding partner_of
-returns c = simp (test c.before ∙ c.if1.true)
+returns c = simp (test c.before ∙ c.if-opposed.true)
 
-returns-2 : tie.Need-returns-2
+returns-2 : tie.Need-returns-then-last-k
 unfolding partner_of
 returns-2 c =
     let p = c.before.before.before.before in
-    simp (test p.before ∙ p.if1.false, eq-eqb _ _ c.before.if2.true)
+    simp (test p.before ∙ p.if-opposed.false, eq-eqb _ _ c.before.if-last-k.true)
 
-returns-3 : tie.Need-returns-3
+returns-3 : tie.Need-returns-else-last-k
 unfolding partner_of
 returns-3 c =
     let p = c.before.before.before.before in
-    simp (test p.before ∙ p.if1.false, ne_eqb _ _ c.before.if2.false)
+    simp (test p.before ∙ p.if-opposed.false, ne_eqb _ _ c.before.if-last-k.false)
 
 pub partner_spec : {M : Type 1} → statement M
 partner_spec = tie.close (tie.spec opposed-requires returns returns-2 returns-3)

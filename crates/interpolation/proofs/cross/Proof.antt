@@ -18,37 +18,37 @@ abbrev xyz : tie.Start → Formula
 xyz s = mul (xy s) (gap s.requires.0.near s.requires.2.near)
 
 -- the start, from where the values are read and from where the points are
-abbrev valued : tie.After-struct-told3 → tie.Start
+abbrev valued : tie.After-struct_told-3-1 → tie.Start
 valued c = c.before.before.before.before.before.before
 
-abbrev placed : tie.After-struct-known5 → tie.Start
+abbrev placed : tie.After-struct_known-5-1 → tie.Start
 placed c = valued c.before.before
 
-cast-result : tie.Need-overflow-cast-result
+cast-result : tie.Need-overflow_cast-result
 cast-result c = widens (value_fits c.before.before.requires.0)
 
-cast-result-2 : tie.Need-overflow-cast-result-2
+cast-result-2 : tie.Need-overflow_cast-result-2
 cast-result-2 c = widens (value_fits c.before.before.before.before.requires.1)
 
-cast-result-3 : tie.Need-overflow-cast-result-3
+cast-result-3 : tie.Need-overflow_cast-result-3
 cast-result-3 c = widens (value_fits (valued c).requires.2)
 
-sub-result : tie.Need-overflow-sub-result
+sub-result : tie.Need-overflow_sub-result
 sub-result c = asks (y (valued c)) tt
 
-mul-result : tie.Need-overflow-mul-result
+mul-result : tie.Need-overflow_mul-result
 mul-result c = asks (xy (valued c)) tt
 
-cast-result-4 : tie.Need-overflow-cast-result-4
+cast-result-4 : tie.Need-overflow_cast-result-4
 cast-result-4 c = search rules
 
-cast-result-5 : tie.Need-overflow-cast-result-5
+cast-result-5 : tie.Need-overflow_cast-result-5
 cast-result-5 c = search rules
 
-sub-result-2 : tie.Need-overflow-sub-result-2
+sub-result-2 : tie.Need-overflow_sub-result-2
 sub-result-2 c = asks (difference (placed c).requires.0.near (placed c).requires.2.near) tt
 
-mul-result-2 : tie.Need-overflow-mul-result-2
+mul-result-2 : tie.Need-overflow_mul-result-2
 mul-result-2 c = asks (xyz (placed c)) tt
 
 returns : tie.Need-returns

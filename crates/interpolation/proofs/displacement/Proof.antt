@@ -22,28 +22,28 @@ abbrev d : tie.Start → Formula
 d s = whole s.args.u.den s.requires.2.den_in tt
 
 -- the start, from where the denominator is known not to be 0
-abbrev start : tie.Else1 → tie.Start
+abbrev start : tie.Else-d-eq0 → tie.Start
 start p = p.before.before.before
 
 -- what the tests say, of the numbers
-other : (p : tie.Else1) → eq_z (start p).args.u.den (pos 0) ≡ false
-other p = bits_other w64 (start p).args.u.den (pos 0) p.if1.false
+other : (p : tie.Else-d-eq0) → eq_z (start p).args.u.den (pos 0) ≡ false
+other p = bits_other w64 (start p).args.u.den (pos 0) p.if-d-eq0.false
 
-negative : (p : tie.Then2) → lt_z (start p.before).args.u.den (pos 0) ≡ true
-negative p = tests lt_z (d (start p.before)) (literal 0 tt) tt ∙ p.if2.true
+negative : (p : tie.Then-d-lt0) → lt_z (start p.before).args.u.den (pos 0) ≡ true
+negative p = tests lt_z (d (start p.before)) (literal 0 tt) tt ∙ p.if-d-lt0.true
 
-not_negative : (p : tie.Else2) → lt_z (start p.before).args.u.den (pos 0) ≡ false
-not_negative p = tests lt_z (d (start p.before)) (literal 0 tt) tt ∙ p.if2.false
+not_negative : (p : tie.Else-d-lt0) → lt_z (start p.before).args.u.den (pos 0) ≡ false
+not_negative p = tests lt_z (d (start p.before)) (literal 0 tt) tt ∙ p.if-d-lt0.false
 
-returns : tie.Need-returns
+returns : tie.Need-returns-then-d-eq0
 unfolding displacement_of
 returns c =
-    rw (bits_same {b = pos 0} (within_fits c.before.before.before.requires.2.den_in tt) (sfits_lit tt) c.if1.true)
+    rw (bits_same {w = w64} {b = pos 0} (within_fits c.before.before.before.requires.2.den_in tt) (sfits_lit tt) c.if-d-eq0.true)
 
-sub-forward : tie.Need-overflow-sub-forward
+sub-forward : tie.Need-overflow_sub-n
 sub-forward c = asks (neg (n (start c.before))) tt
 
-sub-forward-2 : tie.Need-overflow-sub-forward-2
+sub-forward-2 : tie.Need-overflow_sub-d
 sub-forward-2 c = asks (neg (d (start c.before))) tt
 
 forward-requires : tie.Need-forward-requires
@@ -57,7 +57,7 @@ forward-requires c κs =
       ),
     )
 
-forward-requires-2 : tie.Need-forward-requires-2
+forward-requires-2 : tie.Need-forward-requires-else-d-lt0
 forward-requires-2 c κs =
     let s = start c.before in (
       omega arith,
@@ -68,17 +68,17 @@ forward-requires-2 c κs =
       ),
     )
 
-returns-2 : tie.Need-returns-2
+returns-2 : tie.Need-returns-then-d-lt0
 unfolding displacement_of
 returns-2 c =
     let s = start c.before.before in
     rw (c.forward.ensures, reads (neg (n s)) tt, reads (neg (d s)) tt, other c.before.before, negative c.before)
 
-returns-3 : tie.Need-returns-3
+returns-3 : tie.Need-returns-else-d-lt0
 unfolding displacement_of
 returns-3 c =
     let s = start c.before.before in
-    rw (c.forward2.ensures, reads (n s) tt, reads (d s) tt, other c.before.before, not_negative c.before)
+    rw (c.forward-else-d-lt0.ensures, reads (n s) tt, reads (d s) tt, other c.before.before, not_negative c.before)
 
 pub displacement_spec : {M : Type 1} → statement M
 displacement_spec =

@@ -11,7 +11,7 @@ num s = mul (literal 2 tt) (whole s.args.u.num s.requires.num_in tt)
 abbrev den : tie.Start → Formula
 den s = whole s.args.u.den s.requires.den_in tt
 
-mul-t2 : tie.Need-overflow-mul-t2
+mul-t2 : tie.Need-overflow_mul-result
 mul-t2 c = asks (num c.before.before) tt
 
 returns : tie.Need-returns

@@ -25,52 +25,52 @@ n c = neg (product c)
 abbrev q : tie.Start → Formula
 q c = whole c.args.q c.requires.1 tt
 
-level : (p : tie.Then1) → eq_z p.before.args.q (pos 0) ≡ true
-level p = bits_same {b = pos 0} p.before.ranges.q (sfits_lit tt) p.if1.true
+level : (p : tie.Then-q-eq0) → eq_z p.before.args.q (pos 0) ≡ true
+level p = bits_same {b = pos 0} p.before.ranges.q (sfits_lit tt) p.if-q-eq0.true
 
-slope : (p : tie.Else1) → eq_z p.before.args.q (pos 0) ≡ false
-slope p = bits_other w64 p.before.args.q (pos 0) p.if1.false
+slope : (p : tie.Else-q-eq0) → eq_z p.before.args.q (pos 0) ≡ false
+slope p = bits_other w64 p.before.args.q (pos 0) p.if-q-eq0.false
 
-returns : tie.Need-returns
+returns : tie.Need-returns-then-s-eq0
 unfolding estimate_of
 returns c =
-    (rw (level c.before, bits_same {b = pos 0} c.before.before.ranges.s (sfits_lit tt) c.if2.true), search rules)
+    (rw (level c.before, bits_same {b = pos 0} c.before.before.ranges.s (sfits_lit tt) c.if-s-eq0.true), search rules)
 
-returns-2 : tie.Need-returns-2
+returns-2 : tie.Need-returns-then-q-eq0
 unfolding estimate_of
-returns-2 c = (rw (level c.before, bits_other w64 c.before.before.args.s (pos 0) c.if2.false), search rules)
+returns-2 c = (rw (level c.before, bits_other w64 c.before.before.args.s (pos 0) c.if-s-eq0.false), search rules)
 
-cast-n : tie.Need-overflow-cast-n
+cast-n : tie.Need-overflow_cast-n
 cast-n c = search rules
 
-cast-n-2 : tie.Need-overflow-cast-n-2
+cast-n-2 : tie.Need-overflow_cast-n-2
 cast-n-2 c = search rules
 
-sub-n : tie.Need-overflow-sub-n
+sub-n : tie.Need-overflow_sub-n
 sub-n c = asks (difference c.before.requires.2 c.before.requires.3) tt
 
-mul-n : tie.Need-overflow-mul-n
+mul-n : tie.Need-overflow_mul-n
 mul-n c = asks (product c.before) tt
 
-sub-n-2 : tie.Need-overflow-sub-n-2
+sub-n-2 : tie.Need-overflow_sub-n-2
 sub-n-2 c = asks (n c.before) tt
 
-sub-t14 : tie.Need-overflow-sub-t14
+sub-t14 : tie.Need-overflow_sub-result
 sub-t14 c = asks (neg (n c.before.before)) tt
 
-returns-3 : tie.Need-returns-3
+returns-3 : tie.Need-returns-then-up
 unfolding estimate_of
 returns-3 c =
     let s = c.before.before in (
-      rw (slope c.before, c.if3.true, reads (n s) tt, reads (q s) tt),
+      rw (slope c.before, c.if-up.true, reads (n s) tt, reads (q s) tt),
       record { num_in = reads_within (n s) tt; den_in = reads_within (q s) tt },
     )
 
-returns-4 : tie.Need-returns-4
+returns-4 : tie.Need-returns-else-up
 unfolding estimate_of
 returns-4 c =
     let s = c.before.before in (
-      rw (slope c.before, c.if3.false, reads (neg (n s)) tt, reads (q s) tt),
+      rw (slope c.before, c.if-up.false, reads (neg (n s)) tt, reads (q s) tt),
       record { num_in = reads_within (neg (n s)) tt; den_in = reads_within (q s) tt },
     )
 

@@ -43,62 +43,62 @@ abbrev high : tie.Start → Formula
 high s = mul (nat s.args.width s.requires.0.1 tt) (d s)
 
 -- what the tests say, of the numbers
-not_below : (p : tie.Else1) → lt_z p.before.args.n (pos 0) ≡ false
-not_below p = tests lt_z (n p.before) (literal 0 tt) tt ∙ p.if1.false
+not_below : (p : tie.Else-n-lt0) → lt_z p.before.args.n (pos 0) ≡ false
+not_below p = tests lt_z (n p.before) (literal 0 tt) tt ∙ p.if-n-lt0.false
 
-not_near : (p : tie.Else2) → le_z p.before.before.args.n (value (low p.before.before)) ≡ false
-not_near p = tests le_z (n p.before.before) (low p.before.before) tt ∙ p.if2.false
+not_near : (p : tie.Else-n-tolerance) → le_z p.before.before.args.n (value (low p.before.before)) ≡ false
+not_near p = tests le_z (n p.before.before) (low p.before.before) tt ∙ p.if-n-tolerance.false
 
-not_past : (p : tie.Then3) → le_z (value (twice p.before.before.before)) (value (high p.before.before.before)) ≡ true
-not_past p = tests le_z (twice p.before.before.before) (high p.before.before.before) tt ∙ p.if3.true
+not_past : (p : tie.Then-n-width) → le_z (value (twice p.before.before.before)) (value (high p.before.before.before)) ≡ true
+not_past p = tests le_z (twice p.before.before.before) (high p.before.before.before) tt ∙ p.if-n-width.true
 
-returns : tie.Need-returns
+returns : tie.Need-returns-then-n-lt0
 unfolding forward_of
-returns c = rw (tests lt_z (n c.before) (literal 0 tt) tt ∙ c.if1.true)
+returns c = rw (tests lt_z (n c.before) (literal 0 tt) tt ∙ c.if-n-lt0.true)
 
-cast-if2 : tie.Need-overflow-cast-if2
+cast-if2 : tie.Need-overflow_cast-tolerance
 cast-if2 c = search rules
 
-mul-if2 : tie.Need-overflow-mul-if2
+mul-if2 : tie.Need-overflow_mul-tolerance
 mul-if2 c = asks (low c.before) tt
 
-returns-2 : tie.Need-returns-2
+returns-2 : tie.Need-returns-then-n-tolerance
 unfolding forward_of
 returns-2 c =
     let s = c.before.before in
-    rw (not_below c.before, tests le_z (n s) (low s) tt ∙ c.if2.true)
+    rw (not_below c.before, tests le_z (n s) (low s) tt ∙ c.if-n-tolerance.true)
 
-mul-if3 : tie.Need-overflow-mul-if3
+mul-if3 : tie.Need-overflow_mul-n
 mul-if3 c = asks (twice c.before.before) tt
 
-cast-if3 : tie.Need-overflow-cast-if3
+cast-if3 : tie.Need-overflow_cast-width
 cast-if3 c = search rules
 
-mul-if3-2 : tie.Need-overflow-mul-if3-2
+mul-if3-2 : tie.Need-overflow_mul-width
 mul-if3-2 c = asks (high c.before.before) tt
 
-div-result : tie.Need-nonzero-div-result
+div-result : tie.Need-nonzero_div-result-then-n-width
 div-result c =
     let s = c.before.before.before in
     (bits_positive w64 s.requires.1.2, asks (quot (n s) (d s)) tt)
 
-cast-result : tie.Need-overflow-cast-result
+cast-result : tie.Need-overflow_cast-result
 cast-result c =
     let s = c.before.before.before in
     let h = quot_range s.args.width s.args.n s.args.d s.requires.1.2 (not_below c.before.before) (not_past c) in
     rw (reads (quot (n s) (d s)) tt) (h.0, omega arith)
 
-returns-3 : tie.Need-returns-3
+returns-3 : tie.Need-returns-then-n-width
 unfolding forward_of
 returns-3 c =
     let s = c.before.before.before in
     rw (reads (quot (n s) (d s)) tt, not_below c.before.before, not_near c.before, not_past c)
 
-returns-4 : tie.Need-returns-4
+returns-4 : tie.Need-returns-else-n-width
 unfolding forward_of
 returns-4 c =
     let s = c.before.before.before in
-    rw (not_below c.before.before, not_near c.before, tests le_z (twice s) (high s) tt ∙ c.if3.false)
+    rw (not_below c.before.before, not_near c.before, tests le_z (twice s) (high s) tt ∙ c.if-n-width.false)
 
 pub forward_spec : {M : Type 1} → statement M
 forward_spec =

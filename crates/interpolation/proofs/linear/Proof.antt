@@ -16,16 +16,16 @@ f c = F c.requires.0
 abbrev rise : tie.Start → Formula
 rise c = sub (f c) (F c.requires.1)
 
-abbrev start : tie.After-struct-told2 → tie.Start
+abbrev start : tie.After-struct_told-2-1 → tie.Start
 start c = c.before.before.before.before
 
-cast_f : tie.Need-overflow-cast-f
+cast_f : tie.Need-overflow_cast-f
 cast_f c = widens (value_fits c.before.before.requires.0)
 
-cast-rise : tie.Need-overflow-cast-rise
+cast-rise : tie.Need-overflow_cast-rise
 cast-rise c = widens (value_fits (start c).requires.1)
 
-sub-rise : tie.Need-overflow-sub-rise
+sub-rise : tie.Need-overflow_sub-rise
 sub-rise c = asks (rise (start c)) tt
 
 estimate-requires : tie.Need-estimate-requires

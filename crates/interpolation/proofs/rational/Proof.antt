@@ -7,19 +7,19 @@ use Rattle.interpolation.specs.Estimates.{rational_estimate}
 use Rattle.interpolation.proofs.rational.Statement.{statement}
 use Rattle.interpolation.proofs.rational.Tie as tie
 
-abbrev s : tie.After-cross2 → Formula
-s c = whole c.before.cross.result c.before.cross.ensures.1 tt
+abbrev s : tie.After-cross → Formula
+s c = whole c.before.cross-s.result c.before.cross-s.ensures.1 tt
 
-abbrev q : tie.After-cross2 → Formula
-q c = sub (s c) (whole c.cross2.result c.cross2.ensures.1 tt)
+abbrev q : tie.After-cross → Formula
+q c = sub (s c) (whole c.cross.result c.cross.ensures.1 tt)
 
-cross-requires : tie.Need-cross-requires
+cross-requires : tie.Need-cross-s-requires
 cross-requires c κs = search rules
 
-cross-requires-2 : tie.Need-cross-requires-2
+cross-requires-2 : tie.Need-cross-requires
 cross-requires-2 c κs = search rules
 
-sub-q : tie.Need-overflow-sub-q
+sub-q : tie.Need-overflow_sub-q
 sub-q c = asks (q c) tt
 
 estimate-requires : tie.Need-estimate-requires
@@ -28,7 +28,7 @@ estimate-requires c κs = (reads_within (s c) tt, reads_within (q c) tt, omega a
 returns : tie.Need-returns
 returns c =
     let p = c.before in (
-      rw (c.estimate.ensures.0, reads (q p) tt, reads (s p) tt, p.before.cross.ensures.0, p.cross2.ensures.0)
+      rw (c.estimate.ensures.0, reads (q p) tt, reads (s p) tt, p.before.cross-s.ensures.0, p.cross.ensures.0)
           (rational_estimate _ _ _ _),
       c.estimate.ensures.1,
     )

@@ -6,43 +6,43 @@ use borrow.Author.Rules.{rules}
 use Rattle.methods.proofs.step_at.Statement.{statement}
 use Rattle.methods.proofs.step_at.Tie as tie
 
-enum_told : tie.Need-enum-told
+enum_told : tie.Need-enum_told-1
 enum_told c = search rules
 
-returns : tie.Need-returns
+returns : tie.Need-returns-then-streak-le1
 unfolding step_of
-returns c = rw c.before.enum_told.given.1 (simp (le-leb _ _ c.if1.true))
+returns c = rw c.before.in-M.is (simp (le-leb _ _ c.if-streak-le1.true))
 
-enum-told-2 : tie.Need-enum-told-2
+enum-told-2 : tie.Need-enum_told-in-R
 enum-told-2 c = search rules
 
-returns-2 : tie.Need-returns-2
+returns-2 : tie.Need-returns-then-first
 unfolding step_of
-returns-2 c = rw c.before.enum-told2.given.1 (simp c.if3.true)
+returns-2 c = rw c.before.in-R.is (simp c.if-first.true)
 
-returns-3 : tie.Need-returns-3
+returns-3 : tie.Need-returns-then-streak-le2
 unfolding step_of
-returns-3 c = rw c.before.before.enum-told2.given.1 (simp (c.before.if3.false, le-leb _ _ c.if4.true))
+returns-3 c = rw c.before.before.in-R.is (simp (c.before.if-first.false, le-leb _ _ c.if-streak-le2.true))
 
-returns-4 : tie.Need-returns-4
+returns-4 : tie.Need-returns-then-streak-eq2
 unfolding step_of
-returns-4 c = rw c.before.before.enum_told.given.1 (simp (lt-leb _ _ c.before.if1.false, eq-eqb _ _ c.if2.true))
+returns-4 c = rw c.before.before.in-M.is (simp (lt-leb _ _ c.before.if-streak-le1.false, eq-eqb _ _ c.if-streak-eq2.true))
 
-returns-5 : tie.Need-returns-5
+returns-5 : tie.Need-returns-else-streak-eq2
 unfolding step_of
-returns-5 c = rw c.before.before.enum_told.given.1 (simp (lt-leb _ _ c.before.if1.false, ne_eqb _ _ c.if2.false))
+returns-5 c = rw c.before.before.in-M.is (simp (lt-leb _ _ c.before.if-streak-le1.false, ne_eqb _ _ c.if-streak-eq2.false))
 
-returns-6 : tie.Need-returns-6
+returns-6 : tie.Need-returns-then-streak-eq3
 unfolding step_of
 returns-6 c =
-    rw c.before.before.before.enum-told2.given.1
-    (simp (c.before.before.if3.false, lt-leb _ _ c.before.if4.false, eq-eqb _ _ c.if5.true))
+    rw c.before.before.before.in-R.is
+    (simp (c.before.before.if-first.false, lt-leb _ _ c.before.if-streak-le2.false, eq-eqb _ _ c.if-streak-eq3.true))
 
-returns-7 : tie.Need-returns-7
+returns-7 : tie.Need-returns-else-streak-eq3
 unfolding step_of
 returns-7 c =
-    rw c.before.before.before.enum-told2.given.1
-    (simp (c.before.before.if3.false, lt-leb _ _ c.before.if4.false, ne_eqb _ _ c.if5.false))
+    rw c.before.before.before.in-R.is
+    (simp (c.before.before.if-first.false, lt-leb _ _ c.before.if-streak-le2.false, ne_eqb _ _ c.if-streak-eq3.false))
 
 pub step_at_spec : {M : Type 1} → statement M
 step_at_spec =

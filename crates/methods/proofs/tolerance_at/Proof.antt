@@ -13,19 +13,19 @@ use borrow.Author.Rules.{rules}
 use Rattle.methods.proofs.tolerance_at.Statement.{statement}
 use Rattle.methods.proofs.tolerance_at.Tie as tie
 
-magnitude-requires : tie.Need-magnitude-requires
+magnitude-requires : tie.Need-magnitude-share-requires
 magnitude-requires c κs = search rules
 
-cast-share : tie.Need-overflow-cast-share
+cast-share : tie.Need-overflow_cast-share
 cast-share c = search rules
 
-magnitude-requires-2 : tie.Need-magnitude-requires-2
+magnitude-requires-2 : tie.Need-magnitude-requires
 magnitude-requires-2 c κs = search rules
 
-cast-result : tie.Need-overflow-cast-result
+cast-result : tie.Need-overflow_cast-result
 cast-result c = search rules
 
-abbrev start_of : tie.After-magnitude2 → tie.Start
+abbrev start_of : tie.After-magnitude → tie.Start
 start_of c = c.before.before.before.before
 
 returns : tie.Need-returns
@@ -34,20 +34,20 @@ returns c =
     let s = start_of c in
     let f : SFits w32 s.args.o.share = search rules in
     let g : SFits w32 s.args.o.tolerance = search rules in
-    cc (c.before.before.magnitude.ensures ∙ ap nat_abs (read f), c.magnitude2.ensures ∙ ap nat_abs (read g))
+    cc (c.before.before.magnitude-share.ensures ∙ ap nat_abs (read f), c.magnitude.ensures ∙ ap nat_abs (read g))
 
-product_most : (c : tie.After-magnitude2) → c.before.before.magnitude.result * (start_of c).args.b ≤ 4294967295 * 4294967295
+product_most : (c : tie.After-magnitude) → c.before.before.magnitude-share.result * (start_of c).args.b ≤ 4294967295 * 4294967295
 product_most c =
-    let p : c.before.before.magnitude.result ≤ 4294967295 = search rules in
+    let p : c.before.before.magnitude-share.result ≤ 4294967295 = search rules in
     let b : (start_of c).args.b ≤ 4294967295 = search rules in
     mul-le-mul p b
 
-mul-result : tie.Need-overflow-mul-result
+mul-result : tie.Need-overflow_mul-result
 mul-result c = record { fits = omega (arith, product_most c) }
 
-add-result : tie.Need-overflow-add-result
+add-result : tie.Need-overflow_add-result
 add-result c =
-    let t : c.magnitude2.result ≤ 4294967295 = search rules in
+    let t : c.magnitude.result ≤ 4294967295 = search rules in
     record { fits = omega (arith, product_most c) }
 
 pub tolerance_at_spec : {M : Type 1} → statement M

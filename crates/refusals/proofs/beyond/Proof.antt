@@ -18,21 +18,21 @@ low s = nat s.args.low {k = 4294967295} (omega arith) tt
 abbrev high : tie.Start → Formula
 high s = nat s.args.high {k = 4294967295} (omega arith) tt
 
-cast-n : tie.Need-overflow-cast-n
+cast-n : tie.Need-overflow_cast-n
 cast-n c = widens c.ranges.z
 
-cast-if1 : tie.Need-overflow-cast-if1
+cast-if1 : tie.Need-overflow_cast-low
 cast-if1 c = search rules
 
-cast-result : tie.Need-overflow-cast-result
+cast-result : tie.Need-overflow_cast-result
 cast-result c = search rules
 
-returns : tie.Need-returns
-returns c = rw c.if1.true (rw (tests lt_z (number c.before) (low c.before) tt ∙ c.if1.true))
+returns : tie.Need-returns-then-n-low
+returns c = rw c.if-n-low.true (rw (tests lt_z (number c.before) (low c.before) tt ∙ c.if-n-low.true))
 
-returns-2 : tie.Need-returns-2
+returns-2 : tie.Need-returns-else-n-low
 returns-2 c =
-    rw (← tests lt_z (high c.before) (number c.before) tt, tests lt_z (number c.before) (low c.before) tt ∙ c.if1.false)
+    rw (← tests lt_z (high c.before) (number c.before) tt, tests lt_z (number c.before) (low c.before) tt ∙ c.if-n-low.false)
 
 pub beyond_spec : {M : Type 1} → statement M
 beyond_spec = tie.close (tie.spec cast-n cast-if1 cast-result returns returns-2)

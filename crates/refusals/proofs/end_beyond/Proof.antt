@@ -9,19 +9,19 @@ use Rattle.refusals.proofs.end_beyond.Tie as tie
 beyond-requires : tie.Need-beyond-requires
 beyond-requires c κs = search rules
 
-beyond-requires-2 : tie.Need-beyond-requires-2
+beyond-requires-2 : tie.Need-beyond-requires-else-beyond
 beyond-requires-2 c κs = search rules
 
-returns : tie.Need-returns
+returns : tie.Need-returns-then-beyond
 returns c =
     let s = c.before.before in
-    simp (sym (rw (read s.ranges.first) at c.before.beyond.ensures) ∙ c.if1.true, c.if1.true)
+    simp (sym (rw (read s.ranges.first) at c.before.beyond.ensures) ∙ c.if-beyond.true, c.if-beyond.true)
 
-returns-2 : tie.Need-returns-2
+returns-2 : tie.Need-returns-else-beyond
 returns-2 c =
     let s = c.before.before.before in
-    simp (sym (rw (read s.ranges.first) at c.before.before.beyond.ensures) ∙ c.before.if1.false)
-    (rw (read s.ranges.second) at c.beyond2.ensures)
+    simp (sym (rw (read s.ranges.first) at c.before.before.beyond.ensures) ∙ c.before.if-beyond.false)
+    (rw (read s.ranges.second) at c.beyond-else-beyond.ensures)
 
 pub end_beyond_spec : {M : Type 1} → statement M
 end_beyond_spec = tie.close (tie.spec beyond-requires beyond-requires-2 returns returns-2)

@@ -17,16 +17,16 @@ use Rattle.refusals.proofs.opening_refusal.Tie as tie
 abbrev at1 : tie.After-beyond → tie.Start
 at1 c = c.before.before
 
-abbrev at2 : tie.After-end-beyond → tie.Start
+abbrev at2 : tie.After-end_beyond → tie.Start
 at2 c = at1 c.before.before.before.before
 
 abbrev at3 : tie.After-equal → tie.Start
 at3 c = at2 c.before.before.before.before
 
-abbrev at4 : tie.After-beyond2 → tie.Start
+abbrev at4 : tie.After-beyond-2 → tie.Start
 at4 c = at3 c.before.before.before
 
-abbrev at5 : tie.After-beyond3 → tie.Start
+abbrev at5 : tie.After-beyond-3 → tie.Start
 at5 c = at4 c.before.before.before
 
 test1 : (c : tie.After-beyond) → outside 0 2 (at1 c).args.o.method ≡ c.beyond.result
@@ -34,11 +34,11 @@ test1 c =
     let f : SFits w32 (at1 c).args.o.method = search rules in
     sym (rw (read f) at c.beyond.ensures)
 
-test2 : (c : tie.After-end-beyond) → outside 0 highest (at2 c).args.o.first || outside 0 highest (at2 c).args.o.second ≡ c.end-beyond.result
+test2 : (c : tie.After-end_beyond) → outside 0 highest (at2 c).args.o.first || outside 0 highest (at2 c).args.o.second ≡ c.end_beyond.result
 test2 c =
     let f : SFits w32 (at2 c).args.o.first = search rules in
     let g : SFits w32 (at2 c).args.o.second = search rules in
-    sym (rw (read f, read g) at c.end-beyond.ensures)
+    sym (rw (read f, read g) at c.end_beyond.ensures)
 
 test3 : (c : tie.After-equal) → eq_z (at3 c).args.o.first (at3 c).args.o.second ≡ c.equal.result
 test3 c =
@@ -46,34 +46,34 @@ test3 c =
     let g : SFits w32 (at3 c).args.o.second = search rules in
     sym (rw (read f, read g) at c.equal.ensures)
 
-test4 : (c : tie.After-beyond2) → outside 1 largest_tolerance (at4 c).args.o.tolerance ≡ c.beyond2.result
+test4 : (c : tie.After-beyond-2) → outside 1 largest_tolerance (at4 c).args.o.tolerance ≡ c.beyond-2.result
 test4 c =
     let f : SFits w32 (at4 c).args.o.tolerance = search rules in
-    sym (rw (read f) at c.beyond2.ensures)
+    sym (rw (read f) at c.beyond-2.ensures)
 
-test5 : (c : tie.After-beyond3) → outside 0 largest_share (at5 c).args.o.share ≡ c.beyond3.result
+test5 : (c : tie.After-beyond-3) → outside 0 largest_share (at5 c).args.o.share ≡ c.beyond-3.result
 test5 c =
     let f : SFits w32 (at5 c).args.o.share = search rules in
-    sym (rw (read f) at c.beyond3.ensures)
+    sym (rw (read f) at c.beyond-3.ensures)
 
 -- ---- and what it leaves where it fails
 
-passed1 : (c : tie.Else1) → outside 0 2 (at1 c.before).args.o.method ≡ false
-passed1 c = test1 c.before ∙ c.if1.false
+passed1 : (c : tie.Else-beyond) → outside 0 2 (at1 c.before).args.o.method ≡ false
+passed1 c = test1 c.before ∙ c.if-beyond.false
 
-passed2 : (c : tie.Else2) → outside 0 highest (at2 c.before).args.o.first || outside 0 highest (at2 c.before).args.o.second ≡ false
-passed2 c = test2 c.before ∙ c.if2.false
+passed2 : (c : tie.Else-end_beyond) → outside 0 highest (at2 c.before).args.o.first || outside 0 highest (at2 c.before).args.o.second ≡ false
+passed2 c = test2 c.before ∙ c.if-end_beyond.false
 
-passed3 : (c : tie.Else3) → eq_z (at3 c.before).args.o.first (at3 c.before).args.o.second ≡ false
-passed3 c = test3 c.before ∙ c.if3.false
+passed3 : (c : tie.Else-equal) → eq_z (at3 c.before).args.o.first (at3 c.before).args.o.second ≡ false
+passed3 c = test3 c.before ∙ c.if-equal.false
 
-passed4 : (c : tie.Else4) → outside 1 largest_tolerance (at4 c.before).args.o.tolerance ≡ false
-passed4 c = test4 c.before ∙ c.if4.false
+passed4 : (c : tie.Else-beyond-2) → outside 1 largest_tolerance (at4 c.before).args.o.tolerance ≡ false
+passed4 c = test4 c.before ∙ c.if-beyond-2.false
 
 beyond-requires : tie.Need-beyond-requires
 beyond-requires c κs = search rules
 
-end-beyond-requires : tie.Need-end-beyond-requires
+end-beyond-requires : tie.Need-end_beyond-requires
 end-beyond-requires c κs = search rules
 
 equal-requires : tie.Need-equal-requires
@@ -85,48 +85,48 @@ beyond-requires-2 c κs = search rules
 beyond-requires-3 : tie.Need-beyond-requires-3
 beyond-requires-3 c κs = search rules
 
-returns : tie.Need-returns
+returns : tie.Need-returns-then-beyond
 unfolding opening_refusal
-returns c = simp (test1 c.before ∙ c.if1.true)
+returns c = simp (test1 c.before ∙ c.if-beyond.true)
 
-returns-2 : tie.Need-returns-2
+returns-2 : tie.Need-returns-then-end_beyond
 unfolding opening_refusal
 returns-2 c =
     let p = c.before.before.before.before in
-    simp (passed1 p, test2 c.before ∙ c.if2.true)
+    simp (passed1 p, test2 c.before ∙ c.if-end_beyond.true)
 
-returns-3 : tie.Need-returns-3
+returns-3 : tie.Need-returns-then-equal
 unfolding opening_refusal
 returns-3 c =
     let q = c.before.before.before.before in
     let p = q.before.before.before.before in
-    simp (passed1 p, passed2 q, test3 c.before ∙ c.if3.true)
+    simp (passed1 p, passed2 q, test3 c.before ∙ c.if-equal.true)
 
-returns-4 : tie.Need-returns-4
+returns-4 : tie.Need-returns-then-beyond-2
 unfolding opening_refusal
 returns-4 c =
     let r = c.before.before.before in
     let q = r.before.before.before.before in
     let p = q.before.before.before.before in
-    simp (passed1 p, passed2 q, passed3 r, test4 c.before ∙ c.if4.true)
+    simp (passed1 p, passed2 q, passed3 r, test4 c.before ∙ c.if-beyond-2.true)
 
-returns-5 : tie.Need-returns-5
+returns-5 : tie.Need-returns-then-beyond-3
 unfolding opening_refusal
 returns-5 c =
     let s = c.before.before.before in
     let r = s.before.before.before in
     let q = r.before.before.before.before in
     let p = q.before.before.before.before in
-    simp (passed1 p, passed2 q, passed3 r, passed4 s, test5 c.before ∙ c.if5.true)
+    simp (passed1 p, passed2 q, passed3 r, passed4 s, test5 c.before ∙ c.if-beyond-3.true)
 
-returns-6 : tie.Need-returns-6
+returns-6 : tie.Need-returns
 unfolding opening_refusal
 returns-6 c =
     let s = c.before.before.before in
     let r = s.before.before.before in
     let q = r.before.before.before.before in
     let p = q.before.before.before.before in
-    simp (passed1 p, passed2 q, passed3 r, passed4 s, test5 c.before ∙ c.if5.false)
+    simp (passed1 p, passed2 q, passed3 r, passed4 s, test5 c.before ∙ c.if-beyond-3.false)
 
 pub opening_refusal_spec : {M : Type 1} → statement M
 opening_refusal_spec =
