@@ -16,24 +16,24 @@ use Rattle.answers.proofs.offer_second.Tie as tie
 abbrev refusal_of_lem : tie.Start → ℕ
 refusal_of_lem s = answer_refusal false s.args.other (too_large s.args.v) (same_side s.args.u s.args.v)
 
-refusal : (c : tie.After-answer-refusal) → c.answer-refusal.result ≡ refusal_of_lem c.before.before.before
+refusal : (c : tie.After-answer_refusal-n) → c.answer_refusal-n.result ≡ refusal_of_lem c.before.before.before
 refusal c =
     let s = c.before.before.before in
-    c.answer-refusal.ensures ∙ rw (c.before.before.too_large.ensures, c.before.same-side.ensures, read s.ranges.u, read s.ranges.v)
+    c.answer_refusal-n.ensures ∙ rw (c.before.before.too_large.ensures, c.before.same_side.ensures, read s.ranges.u, read s.ranges.v)
 
-too-large-requires : tie.Need-too-large-requires
+too-large-requires : tie.Need-too_large-requires
 too-large-requires c κs = search rules
 
-same-side-requires : tie.Need-same-side-requires
+same-side-requires : tie.Need-same_side-requires
 same-side-requires c κs = search rules
 
-answer-refusal-requires : tie.Need-answer-refusal-requires
+answer-refusal-requires : tie.Need-answer_refusal-n-requires
 answer-refusal-requires c κs = search rules
 
-returns : tie.Need-returns
+returns : tie.Need-returns-then-n-ne0
 returns c =
     let n = refusal c.before in
-    rw n (simp (ne_eqb _ 0 (λ e. c.if1.true (n ∙ e))))
+    rw n (simp (ne_eqb _ 0 (λ e. c.if-n-ne0.true (n ∙ e))))
 
 magnitude-requires : tie.Need-magnitude-requires
 magnitude-requires c κs = search rules
@@ -44,16 +44,16 @@ magnitude-requires-2 c κs = search rules
 start-requires : tie.Need-start-requires
 start-requires c κs = search rules
 
-returns-2 : tie.Need-returns-2
+returns-2 : tie.Need-returns
 returns-2 c =
     let p = c.before.before.before.before.before in
     let s = p.before.before.before.before in
     let f : SFits w32 s.args.o.first = search rules in
     let g : SFits w32 s.args.o.second = search rules in
     let m = c.before.before.before.magnitude.ensures in
-    simp (eq-eqb _ 0 (sym (refusal p.before) ∙ p.if1.false))
+    simp (eq-eqb _ 0 (sym (refusal p.before) ∙ p.if-n-ne0.false))
     (ap Progress.Bracketed
-    (c.start.ensures ∙ rw (c.before.magnitude2.ensures, m, read f, read g, read s.ranges.u, read s.ranges.v)))
+    (c.start.ensures ∙ rw (c.before.magnitude-2.ensures, m, read f, read g, read s.ranges.u, read s.ranges.v)))
 
 pub offer_second_spec : {M : Type 1} → statement M
 offer_second_spec =

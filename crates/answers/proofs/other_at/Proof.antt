@@ -13,25 +13,25 @@ use Rattle.answers.specs.Answers.{other_than}
 use Rattle.answers.proofs.other_at.Statement.{statement}
 use Rattle.answers.proofs.other_at.Tie as tie
 
-returns : tie.Need-returns
+returns : tie.Need-returns-then-i-free
 unfolding other_than
-returns c = simp (lt-ltb _ _ c.if1.true)
+returns c = simp (lt-ltb _ _ c.if-i-free.true)
 
-mul-differs : tie.Need-overflow-mul-differs
+mul-differs : tie.Need-offset_bounds-points-j
 mul-differs c = search rules
 
-shared-slice-copy-out-differs : tie.Need-shared-slice-copy-out-differs
+shared-slice-copy-out-differs : tie.Need-bounds-points-j
 shared-slice-copy-out-differs c = search rules
 
 differs-requires : tie.Need-differs-requires
 differs-requires c κs = search rules
 
-returns-2 : tie.Need-returns-2
+returns-2 : tie.Need-returns
 unfolding other_than
 returns-2 c =
     let s = c.before.before.before.args in
     let f : SFits w32 (get_or s.points.now (s.i - s.free) (pos 0)) = search rules in
-    simp (le-ltb _ _ c.before.before.if1.false) (c.differs.ensures ∙ rw (read f))
+    simp (le-ltb _ _ c.before.before.if-i-free.false) (c.differs.ensures ∙ rw (read f))
 
 pub other_at_spec : {M : Type 1} → statement M
 other_at_spec =

@@ -8,29 +8,29 @@ use borrow.Author.Rules.{rules}
 use Rattle.steps.proofs.next_point.Statement.{statement}
 use Rattle.steps.proofs.next_point.Tie as tie
 
-offset-requires : tie.Need-offset-requires
+offset-requires : tie.Need-offset-d-requires
 offset-requires c κs = search rules
 
-add-result : tie.Need-overflow-add-result
+add-result : tie.Need-overflow_add-result
 add-result c =
     let s = c.before.before.before in
     let h = (offset_in s.args.o s.args.k s.requires.going).high in
     let l = s.requires.sound.limits.other.point in
-    rw c.before.before.offset.ensures (omega arith)
+    rw c.before.before.offset-d.ensures (omega arith)
 
-sub-result : tie.Need-overflow-sub-result
+sub-result : tie.Need-overflow_sub-result
 sub-result c =
     let s = c.before.before.before in
     let h = (offset_in s.args.o s.args.k s.requires.going).high in
-    rw c.before.before.offset.ensures (omega arith)
+    rw c.before.before.offset-d.ensures (omega arith)
 
-returns : tie.Need-returns
+returns : tie.Need-returns-then-b-k
 unfolding next_of
-returns c = simp (le-leb _ _ c.if1.true, c.before.before.offset.ensures)
+returns c = simp (le-leb _ _ c.if-b-k.true, c.before.before.offset-d.ensures)
 
-returns-2 : tie.Need-returns-2
+returns-2 : tie.Need-returns-else-b-k
 unfolding next_of
-returns-2 c = simp (lt-leb _ _ c.if1.false, c.before.before.offset.ensures)
+returns-2 c = simp (lt-leb _ _ c.if-b-k.false, c.before.before.offset-d.ensures)
 
 pub next_point_spec : {M : Type 1} → statement M
 next_point_spec = tie.close (tie.spec offset-requires add-result sub-result returns returns-2)

@@ -11,28 +11,28 @@ use borrow.Author.Rules.{rules}
 use Rattle.steps.proofs.offset.Statement.{statement}
 use Rattle.steps.proofs.offset.Tie as tie
 
-tolerance-at-requires : tie.Need-tolerance-at-requires
+tolerance-at-requires : tie.Need-tolerance_at-tolerance-requires
 tolerance-at-requires c κs = search rules
 
 returns : tie.Need-returns
 unfolding offset_of
 returns c =
     let m = c.before.before.before in
-    c.reach.ensures ∙ rw (c.before.step-at.ensures, m.method-of.ensures, m.before.tolerance-at.ensures)
+    c.reach.ensures ∙ rw (c.before.step_at-step.ensures, m.method_of.ensures, m.before.tolerance_at-tolerance.ensures)
 
-tolerance_fits : (c : tie.After-tolerance-at) → c.tolerance-at.result ≤ widest
+tolerance_fits : (c : tie.After-tolerance_at-tolerance) → c.tolerance_at-tolerance.result ≤ widest
 tolerance_fits c =
     let s = c.before in
     let h = tolerance_most s.args.o s.args.k.better.point s.requires.opened s.requires.sound.limits.better.point in
-    rw c.tolerance-at.ensures (omega arith)
+    rw c.tolerance_at-tolerance.ensures (omega arith)
 
-cast-tolerance : tie.Need-overflow-cast-tolerance
+cast-tolerance : tie.Need-overflow_cast-tolerance
 cast-tolerance c = record { fits = omega (arith, tolerance_fits c) }
 
-method-of-requires : tie.Need-method-of-requires
+method-of-requires : tie.Need-method_of-requires
 method-of-requires c κs = search rules
 
-step-at-requires : tie.Need-step-at-requires
+step-at-requires : tie.Need-step_at-step-requires
 step-at-requires c κs = search rules
 
 reach-requires : tie.Need-reach-requires

@@ -13,18 +13,18 @@ use Rattle.steps.proofs.stopped.Tie as tie
 
 returns : tie.Need-returns
 unfolding stopped_of
-returns c = rw (c.before.width.ensures, c.tolerance-at.ensures)
+returns c = rw (c.before.width.ensures, c.tolerance_at.ensures)
 
 width-requires : tie.Need-width-requires
 width-requires c κs = search rules
 
-cast-result : tie.Need-overflow-cast-result
+cast-result : tie.Need-overflow_cast-result
 cast-result c = search rules
 
-tolerance-at-requires : tie.Need-tolerance-at-requires
+tolerance-at-requires : tie.Need-tolerance_at-requires
 tolerance-at-requires c κs = search rules
 
-mul-result : tie.Need-overflow-mul-result
+mul-result : tie.Need-overflow_mul-result
 mul-result c =
     let s = c.before.before in
     let f : SFits w32 s.args.o.tolerance = search rules in
@@ -32,7 +32,7 @@ mul-result c =
     let b : s.args.k.better.point ≤ 4294967295 = search rules in
     let o = s.args.o in
     let h = tolerance_within o s.args.k.better.point (nat_abs-le o.tolerance f.sfits) (nat_abs-le o.share g.sfits) b in
-    record { fits = rw c.tolerance-at.ensures (omega arith) }
+    record { fits = rw c.tolerance_at.ensures (omega arith) }
 
 pub stopped_spec : {M : Type 1} → statement M
 stopped_spec =
