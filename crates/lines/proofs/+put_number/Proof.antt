@@ -33,38 +33,38 @@ below t = (put_byte.Asked, put_byte.Learnt, and 0 kinds.ps (falls 0 kinds.ps ◌
 more_length : (n : ℕ) → 10 ≤ n → length (decimal_of n) ≡ length (decimal_of (n / 10)) + 1
 more_length n h = rw (decimal_more n h, length-append)
 
-cast_put_byte : (t : ℕ) → lts.Need-overflow-cast-put-byte (below t) (at t) put-number.Post
+cast_put_byte : (t : ℕ) → lts.Need-overflow_cast-n (below t) (at t) put-number.Post
 cast_put_byte t c = search rules
 
-add_put_byte : (t : ℕ) → lts.Need-overflow-add-put-byte (below t) (at t) put-number.Post
+add_put_byte : (t : ℕ) → lts.Need-overflow_add-n (below t) (at t) put-number.Post
 add_put_byte t c = search rules
 
-put_byte_requires : (t : ℕ) → lts.Need-put-byte-requires (below t) (at t) put-number.Post
-put_byte_requires t c κs = omega (arith, ap length (decimal_one c.before.args.n c.if1.true))
+put_byte_requires : (t : ℕ) → lts.Need-put_byte-requires (below t) (at t) put-number.Post
+put_byte_requires t c κs = omega (arith, ap length (decimal_one c.args.n c.if-n-lt10.true))
 
-returns : (t : ℕ) → lts.Need-returns (below t) (at t) put-number.Post
+returns : (t : ℕ) → lts.Need-returns-then-n-lt10 (below t) (at t) put-number.Post
 unfolding written
-returns t c = c.put_byte.ensures ∙ rw (decimal_one c.before.before.args.n c.before.if1.true)
+returns t c = c.put_byte.ensures ∙ rw (decimal_one c.args.n c.if-n-lt10.true)
 
-put_number_requires : (t : ℕ) → lts.Need-put-number-requires (below t) (at t) put-number.Post
-put_number_requires t c κs = (omega arith, omega (arith, more_length c.before.args.n c.if1.false))
+put_number_requires : (t : ℕ) → lts.Need-put_number-requires (below t) (at t) put-number.Post
+put_number_requires t c κs = (omega arith, omega (arith, more_length c.args.n c.if-n-lt10.false))
 
-cast_put_byte_2 : (t : ℕ) → lts.Need-overflow-cast-put-byte-2 (below t) (at t) put-number.Post
+cast_put_byte_2 : (t : ℕ) → lts.Need-overflow_cast-n-2 (below t) (at t) put-number.Post
 cast_put_byte_2 t c = search rules
 
-add_put_byte_2 : (t : ℕ) → lts.Need-overflow-add-put-byte-2 (below t) (at t) put-number.Post
+add_put_byte_2 : (t : ℕ) → lts.Need-overflow_add-n-2 (below t) (at t) put-number.Post
 add_put_byte_2 t c = search rules
 
-put_byte_requires_2 : (t : ℕ) → lts.Need-put-byte-requires-2 (below t) (at t) put-number.Post
+put_byte_requires_2 : (t : ℕ) → lts.Need-put_byte-requires-2 (below t) (at t) put-number.Post
 put_byte_requires_2 t c κs =
-    let s = c.before.before.args in
-    omega (arith, ap (λ (l : Line). l.len) c.put-number.ensures, written_len s.line (decimal_of (s.n / 10)), more_length s.n c.before.if1.false)
+    let s = c.args in
+    omega (arith, ap (λ (l : Line). l.len) c.put_number.ensures, written_len s.line (decimal_of (s.n / 10)), more_length s.n c.if-n-lt10.false)
 
-returns_2 : (t : ℕ) → lts.Need-returns-2 (below t) (at t) put-number.Post
+returns_2 : (t : ℕ) → lts.Need-returns (below t) (at t) put-number.Post
 unfolding written
 returns_2 t c =
-    let s = c.before.before.before.args in
-    c.put-byte2.ensures ∙ rw (decimal_more s.n c.before.before.if1.false, written_append, c.before.put-number.ensures)
+    let s = c.args in
+    c.put_byte-2.ensures ∙ rw (decimal_more s.n c.if-n-lt10.false, written_append, c.put_number.ensures)
 
 pub +put_number_spec : {M : Type 1} → statement M
 +put_number_spec =

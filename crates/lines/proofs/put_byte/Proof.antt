@@ -5,10 +5,10 @@ use borrow.Author.Rules.{rules}
 use Rattle.lines.proofs.put_byte.Statement.{statement}
 use Rattle.lines.proofs.put_byte.Tie as tie
 
-element-write-next : tie.Need-element-write-next
+element-write-next : tie.Need-bounds-next-at
 element-write-next c = search rules
 
-add-next : tie.Need-overflow-add-next
+add-next : tie.Need-overflow_add-next
 add-next c = search rules
 
 returns : tie.Need-returns

@@ -34,11 +34,11 @@ returns c =
     let s = start_of c in
     let f : SFits w32 s.args.o.share = search rules in
     let g : SFits w32 s.args.o.tolerance = search rules in
-    cc (c.before.before.magnitude-share.ensures ∙ ap nat_abs (read f), c.magnitude.ensures ∙ ap nat_abs (read g))
+    cc (c.magnitude-share.ensures ∙ ap nat_abs (read f), c.magnitude.ensures ∙ ap nat_abs (read g))
 
-product_most : (c : tie.After-magnitude) → c.before.before.magnitude-share.result * (start_of c).args.b ≤ 4294967295 * 4294967295
+product_most : (c : tie.After-magnitude) → c.magnitude-share.result * (start_of c).args.b ≤ 4294967295 * 4294967295
 product_most c =
-    let p : c.before.before.magnitude-share.result ≤ 4294967295 = search rules in
+    let p : c.magnitude-share.result ≤ 4294967295 = search rules in
     let b : (start_of c).args.b ≤ 4294967295 = search rules in
     mul-le-mul p b
 

@@ -16,21 +16,21 @@ add-result c =
     let s = c.before.before.before in
     let h = (offset_in s.args.o s.args.k s.requires.going).high in
     let l = s.requires.sound.limits.other.point in
-    rw c.before.before.offset-d.ensures (omega arith)
+    rw c.offset-d.ensures (omega arith)
 
 sub-result : tie.Need-overflow_sub-result
 sub-result c =
     let s = c.before.before.before in
     let h = (offset_in s.args.o s.args.k s.requires.going).high in
-    rw c.before.before.offset-d.ensures (omega arith)
+    rw c.offset-d.ensures (omega arith)
 
 returns : tie.Need-returns-then-b-k
 unfolding next_of
-returns c = simp (le-leb _ _ c.if-b-k.true, c.before.before.offset-d.ensures)
+returns c = simp (le-leb _ _ c.if-b-k.true, c.offset-d.ensures)
 
 returns-2 : tie.Need-returns-else-b-k
 unfolding next_of
-returns-2 c = simp (lt-leb _ _ c.if-b-k.false, c.before.before.offset-d.ensures)
+returns-2 c = simp (lt-leb _ _ c.if-b-k.false, c.offset-d.ensures)
 
 pub next_point_spec : {M : Type 1} → statement M
 next_point_spec = tie.close (tie.spec offset-requires add-result sub-result returns returns-2)

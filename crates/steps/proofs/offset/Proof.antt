@@ -18,7 +18,7 @@ returns : tie.Need-returns
 unfolding offset_of
 returns c =
     let m = c.before.before.before in
-    c.reach.ensures ∙ rw (c.before.step_at-step.ensures, m.method_of.ensures, m.before.tolerance_at-tolerance.ensures)
+    c.reach.ensures ∙ rw (c.step_at-step.ensures, m.method_of.ensures, m.tolerance_at-tolerance.ensures)
 
 tolerance_fits : (c : tie.After-tolerance_at-tolerance) → c.tolerance_at-tolerance.result ≤ widest
 tolerance_fits c =
@@ -38,7 +38,7 @@ step-at-requires c κs = search rules
 reach-requires : tie.Need-reach-requires
 reach-requires c κs =
     let t = c.before.before.before in
-    (omega (arith, tolerance_fits t), surveyed t.before.requires.sound)
+    (omega (arith, tolerance_fits t), surveyed t.requires.sound)
 
 pub offset_spec : {M : Type 1} → statement M
 offset_spec =

@@ -46,20 +46,20 @@ enum-told-4 c = search rules
 returns : tie.Need-returns-in-Linear
 unfolding reach_of
 returns c =
-    let w = c in
+    let w = c.before.before.before.before.before in
     rw c.in-Linear.is (c.displacement.ensures ∙ rw (c.linear.ensures.0, w.width-length.ensures))
 
 returns-2 : tie.Need-returns-in-Rational
 unfolding reach_of
 returns-2 c =
-    let w = c in
+    let w = c.before.before.before.before.before in
     rw c.in-Rational.is (c.displacement-in-Rational.ensures ∙ rw (c.rational.ensures.0, w.width-length.ensures))
 
 returns-3 : tie.Need-returns-in-Doubled
 unfolding reach_of
 returns-3 c =
-    let r = c in
-    let w = r in
+    let r = c.before.before in
+    let w = r.before.before.before.before in
     rw r.in-Doubled.is
     (c.displacement-in-Doubled.ensures ∙ rw (c.doubled.ensures.0, r.rational-u.ensures.0, w.width-length.ensures))
 

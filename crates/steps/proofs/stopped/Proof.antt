@@ -13,7 +13,7 @@ use Rattle.steps.proofs.stopped.Tie as tie
 
 returns : tie.Need-returns
 unfolding stopped_of
-returns c = rw (c.before.width.ensures, c.tolerance_at.ensures)
+returns c = rw (c.width.ensures, c.tolerance_at.ensures)
 
 width-requires : tie.Need-width-requires
 width-requires c κs = search rules
