@@ -8,31 +8,31 @@ use Rattle.printing.specs.PrintedLaws.{record_short}
 use Rattle.printing.proofs.line_of.Statement.{statement}
 use Rattle.printing.proofs.line_of.Tie as tie
 
-enum-known-report : tie.Need-enum-known-report
+enum-known-report : tie.Need-enum_known-report
 enum-known-report c = search rules
 
-slice-aggregate-line-with : tie.Need-slice-aggregate-line-with
+slice-aggregate-line-with : tie.Need-slice_bounds-line_with-end-in-Next
 slice-aggregate-line-with c = search rules
 
-slice-aggregate-line-with-2 : tie.Need-slice-aggregate-line-with-2
+slice-aggregate-line-with-2 : tie.Need-slice_bounds-line_with-end-in-Stop-2
 slice-aggregate-line-with-2 c = search rules
 
-line-with-requires : tie.Need-line-with-requires
+line-with-requires : tie.Need-line_with-requires
 line-with-requires c κs = record_short _ _ (search rules, (search rules, tt)) (omega arith)
 
-enum-known-report-2 : tie.Need-enum-known-report-2
+enum-known-report-2 : tie.Need-enum_known-report-in-Stop-1
 enum-known-report-2 c = search rules
 
-slice-aggregate-line-with-3 : tie.Need-slice-aggregate-line-with-3
+slice-aggregate-line-with-3 : tie.Need-slice_bounds-line_with-end-in-Refused-2
 slice-aggregate-line-with-3 c = search rules
 
 slice-aggregate-line-with-4 : tie.Need-slice-aggregate-line-with-4
 slice-aggregate-line-with-4 c = search rules
 
-line-with-requires-2 : tie.Need-line-with-requires-2
+line-with-requires-2 : tie.Need-line_with-requires-in-Stop
 line-with-requires-2 c κs = record_short _ _ (search rules, (search rules, (search rules, (search rules, tt)))) (omega arith)
 
-enum-known-report-3 : tie.Need-enum-known-report-3
+enum-known-report-3 : tie.Need-enum_known-report-in-Refused-1
 enum-known-report-3 c = search rules
 
 slice-aggregate-line-with-5 : tie.Need-slice-aggregate-line-with-5
@@ -41,20 +41,20 @@ slice-aggregate-line-with-5 c = search rules
 slice-aggregate-line-with-6 : tie.Need-slice-aggregate-line-with-6
 slice-aggregate-line-with-6 c = search rules
 
-line-with-requires-3 : tie.Need-line-with-requires-3
+line-with-requires-3 : tie.Need-line_with-requires-in-Refused
 line-with-requires-3 c κs = record_short _ _ (search rules, (search rules, tt)) (omega arith)
 
-returns : tie.Need-returns
+returns : tie.Need-returns-in-Next
 unfolding record_of
-returns c = rw c.before.before.before.before.report.given.1 c.line-with.ensures
+returns c = rw c.in-Next.is c.line_with.ensures
 
-returns-2 : tie.Need-returns-2
+returns-2 : tie.Need-returns-in-Stop
 unfolding record_of
-returns-2 c = rw c.before.before.before.before.report2.given.1 c.line-with2.ensures
+returns-2 c = rw c.in-Stop.is c.line_with-in-Stop.ensures
 
-returns-3 : tie.Need-returns-3
+returns-3 : tie.Need-returns-in-Refused
 unfolding record_of
-returns-3 c = rw c.before.before.before.before.report3.given.1 c.line-with3.ensures
+returns-3 c = rw c.in-Refused.is c.line_with-in-Refused.ensures
 
 pub line_of_spec : {M : Type 1} → statement M
 line_of_spec =

@@ -13,23 +13,23 @@ use Rattle.printing.specs.PrintedLaws.{record_parts}
 use Rattle.printing.proofs.line_with.Statement.{statement}
 use Rattle.printing.proofs.line_with.Tie as tie
 
-put-text-requires : tie.Need-put-text-requires
+put-text-requires : tie.Need-put_text-requires
 put-text-requires c κs =
-    let s = c.before.before.args in
+    let s = c.args in
     omega (arith, record_parts s.word.now s.numbers.now)
 
-put-fields-requires : tie.Need-put-fields-requires
+put-fields-requires : tie.Need-put_fields-line-requires
 put-fields-requires c κs =
-    let s = c.before.before.before.args in
-    rw (c.put-text.ensures, written_len) (omega (arith, record_parts s.word.now s.numbers.now))
+    let s = c.args in
+    rw (c.put_text.ensures, written_len) (omega (arith, record_parts s.word.now s.numbers.now))
 
 slice-aggregate-put-text : tie.Need-slice-aggregate-put-text
 slice-aggregate-put-text c = search rules
 
-put-text-requires-2 : tie.Need-put-text-requires-2
+put-text-requires-2 : tie.Need-put_text-requires-2
 put-text-requires-2 c κs =
-    let s = c.before.before.before.before.before.args in
-    simp (c.before.put-fields.ensures, c.before.before.put-text.ensures, written_len)
+    let s = c.args in
+    simp (c.put_fields-line.ensures, c.put_text.ensures, written_len)
     (omega (arith, record_parts s.word.now s.numbers.now))
 
 parts : (word numbers : List ℕ) → written (written (written empty_line word) (number_fields numbers)) line_end ≡ written empty_line (record_with word numbers)
@@ -41,7 +41,7 @@ returns c =
     let at_fields = c.before.before in
     let at-word = at_fields.before in
     let start = at-word.before.before.before in
-    rw (c.put-text2.ensures, at_fields.put-fields.ensures, at-word.put-text.ensures, parts start.args.word.now start.args.numbers.now)
+    rw (c.put_text-2.ensures, at_fields.put_fields-line.ensures, at-word.put_text.ensures, parts start.args.word.now start.args.numbers.now)
     (written_holds _ start.requires)
 
 pub line_with_spec : {M : Type 1} → statement M

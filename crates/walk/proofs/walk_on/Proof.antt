@@ -133,7 +133,7 @@ returns-4 c =
     let t = c.before in
     let l = (at-loop t).loop-o in
     told_refused _ _ _ _ (l.i + 1) _ _
-    (led_not _ _ _ _ l.i _ l.inv refl t.if-total-i.false (start_of t).requires.0 _ _ _
+    (led_not _ _ _ _ l.i _ l.invariant refl t.if-total-i.false (start_of t).requires.0 _ _ _
     (other_is t) t.value_at-v.ensures (refusal t) c.if-n-ne0.true)
 
 advance-requires : tie.Need-advance-k-requires invariant-loop decreases-loop
@@ -156,7 +156,7 @@ loop-again c =
     let e : c.advance-k.result ≡ advance_of l.k (record { point = next_of s.o l.k; value = value_of t }) =
     c.advance-k.ensures ∙ ap₂ (λ (p : ℕ) (v : ℤ). advance_of l.k (record { point = p; value = v })) (point_is t) (value_back t) in
     subst (λ (k : Bracket). Led s.o s.values.now s.points.now s.tail.now (l.i + 1) (Progress.Bracketed k)) (sym e)
-    (led_entered _ _ _ _ l.i _ l.inv refl t.if-total-i.false (start_of t).requires.0 _ _ _
+    (led_entered _ _ _ _ l.i _ l.invariant refl t.if-total-i.false (start_of t).requires.0 _ _ _
     (other_is t) t.value_at-v.ensures (refusal t) c.if-n-ne0.false)
 
 pub walk_on_spec : {M : Type 1} → statement M
