@@ -9,34 +9,34 @@ use borrow.Author.Rules.{rules}
 use Rattle.fields.proofs.scan_field.Statement.{statement}
 use Rattle.fields.proofs.scan_field.Tie as tie
 
-byte-at-requires : tie.Need-byte-at-requires
+byte-at-requires : tie.Need-byte_at-requires
 byte-at-requires c κs = search rules
 
-add-scan-number : tie.Need-overflow-add-scan-number
+add-scan-number : tie.Need-overflow_add-from
 add-scan-number c =
-    let a = c.before.before.before.args in
-    omega (arith, inside a.s.now a.from 34 (sym c.before.byte_at.ensures ∙ c.if1.true) (omega arith))
+    let a = c.args in
+    omega (arith, inside a.s.now a.from 34 (sym c.byte_at.ensures ∙ c.if-byte_at-eq-DOUBLE_QUOTE.true) (omega arith))
 
-scan-number-requires : tie.Need-scan-number-requires
+scan-number-requires : tie.Need-scan_number-requires
 scan-number-requires c κs = search rules
 
-before-byte-requires : tie.Need-before-byte-requires
+before-byte-requires : tie.Need-before_byte-requires
 before-byte-requires c κs = search rules
 
-scan-number-requires-2 : tie.Need-scan-number-requires-2
+scan-number-requires-2 : tie.Need-scan_number-requires-else-byte_at-eq-DOUBLE_QUOTE
 scan-number-requires-2 c κs = search rules
 
-returns : tie.Need-returns
+returns : tie.Need-returns-then-byte_at-eq-DOUBLE_QUOTE
 returns c =
     let n = c.before in
     let t = n.before in
-    simp (sym t.before.byte_at.ensures ∙ t.if1.true)
-    (c.before-byte.ensures ∙ ap (before_byte 34 t.before.before.before.args.s.now) n.scan-number.ensures)
+    simp (sym t.byte_at.ensures ∙ t.if-byte_at-eq-DOUBLE_QUOTE.true)
+    (c.before_byte.ensures ∙ ap (before_byte 34 t.args.s.now) n.scan_number.ensures)
 
-returns-2 : tie.Need-returns-2
+returns-2 : tie.Need-returns-else-byte_at-eq-DOUBLE_QUOTE
 returns-2 c =
     let t = c.before in
-    simp (ne_eqb _ 34 (λ h. t.if1.false (t.before.byte_at.ensures ∙ h))) c.scan-number2.ensures
+    simp (ne_eqb _ 34 (λ h. t.if-byte_at-eq-DOUBLE_QUOTE.false (t.byte_at.ensures ∙ h))) c.scan_number-else-byte_at-eq-DOUBLE_QUOTE.ensures
 
 pub scan_field_spec : {M : Type 1} → statement M
 scan_field_spec =

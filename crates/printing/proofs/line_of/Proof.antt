@@ -26,20 +26,11 @@ enum-known-report-2 c = search rules
 slice-aggregate-line-with-3 : tie.Need-slice_bounds-line_with-end-in-Refused-2
 slice-aggregate-line-with-3 c = search rules
 
-slice-aggregate-line-with-4 : tie.Need-slice-aggregate-line-with-4
-slice-aggregate-line-with-4 c = search rules
-
 line-with-requires-2 : tie.Need-line_with-requires-in-Stop
 line-with-requires-2 c κs = record_short _ _ (search rules, (search rules, (search rules, (search rules, tt)))) (omega arith)
 
 enum-known-report-3 : tie.Need-enum_known-report-in-Refused-1
 enum-known-report-3 c = search rules
-
-slice-aggregate-line-with-5 : tie.Need-slice-aggregate-line-with-5
-slice-aggregate-line-with-5 c = search rules
-
-slice-aggregate-line-with-6 : tie.Need-slice-aggregate-line-with-6
-slice-aggregate-line-with-6 c = search rules
 
 line-with-requires-3 : tie.Need-line_with-requires-in-Refused
 line-with-requires-3 c κs = record_short _ _ (search rules, (search rules, tt)) (omega arith)
@@ -62,15 +53,12 @@ line_of_spec =
     (tie.spec
     enum-known-report
     slice-aggregate-line-with
-    slice-aggregate-line-with-2
     line-with-requires
     enum-known-report-2
-    slice-aggregate-line-with-3
-    slice-aggregate-line-with-4
+    slice-aggregate-line-with-2
     line-with-requires-2
     enum-known-report-3
-    slice-aggregate-line-with-5
-    slice-aggregate-line-with-6
+    slice-aggregate-line-with-3
     line-with-requires-3
     returns
     returns-2

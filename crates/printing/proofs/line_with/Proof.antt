@@ -23,9 +23,6 @@ put-fields-requires c κs =
     let s = c.args in
     rw (c.put_text.ensures, written_len) (omega (arith, record_parts s.word.now s.numbers.now))
 
-slice-aggregate-put-text : tie.Need-slice-aggregate-put-text
-slice-aggregate-put-text c = search rules
-
 put-text-requires-2 : tie.Need-put_text-requires-2
 put-text-requires-2 c κs =
     let s = c.args in
@@ -45,4 +42,4 @@ returns c =
     (written_holds _ start.requires)
 
 pub line_with_spec : {M : Type 1} → statement M
-line_with_spec = tie.close (tie.spec put-text-requires put-fields-requires slice-aggregate-put-text put-text-requires-2 returns)
+line_with_spec = tie.close (tie.spec put-text-requires put-fields-requires put-text-requires-2 returns)

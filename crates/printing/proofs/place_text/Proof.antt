@@ -64,4 +64,15 @@ returns-2 c =
 
 pub place_text_spec : {M : Type 1} → statement M
 place_text_spec =
-    tie.close (tie.spec invariant-loop decreases-loop returns loop-holds shared-slice-read-out slice-write-out add-i loop-less loop-again same_length returns-2)
+    tie.close (tie.spec
+    invariant-loop
+    decreases-loop
+    returns
+    loop-holds
+    shared-slice-read-out
+    slice-write-out
+    add-i
+    loop-less
+    loop-again
+    same_length
+    returns-2)

@@ -24,10 +24,16 @@ same_length c = search rules
 
 returns : tie.Need-returns
 returns c =
-    let held = c.before.before.before.before.before.before.Line-of.ensures in
+    let held = c.line_of-line.ensures in
     let done = rw held.text_is at c.place_text.ensures in
     (done.0, (done.1, holds_short held))
 
 pub write_report_spec : {M : Type 1} → statement M
 write_report_spec =
-    tie.close (tie.spec line-of-requires array-share-prefix-bytes slice-aggregate-place-text place-text-requires same_length returns)
+    tie.close (tie.spec
+    line-of-requires
+    array-share-prefix-bytes
+    slice-aggregate-place-text
+    place-text-requires
+    same_length
+    returns)

@@ -19,41 +19,41 @@ use Rattle.search.proofs.quote.Tie as tie
 
 -- ---- the numbers, as the definition has them
 
-abbrev else-of : tie.After-magnitude3 → tie.Else1
+abbrev else-of : tie.After-magnitude-3 → tie.Else-n-ne0
 else-of c = c.before.before.before.before.before.before.before
 
-abbrev start_of : tie.After-allowed-streak → tie.Start
+abbrev start_of : tie.After-allowed_streak → tie.Start
 start_of c = (else-of c.before.before.before).before.before
 
-opening_fits : (c : tie.Else1) → Opened c.before.before.args.o
-opening_fits c = opened c.before.before.args.o (record { accepted = sym c.before.opening-refusal.ensures ∙ c.if1.false })
+opening_fits : (c : tie.Else-n-ne0) → Opened c.args.o
+opening_fits c = opened c.args.o (record { accepted = sym c.opening_refusal-n.ensures ∙ c.if-n-ne0.false })
 
-distance_is : (c : tie.After-gap) → c.gap.result ≡ distance_of c.before.before.before.before.before.before.before.args.o
+distance_is : (c : tie.After-gap-distance) → c.gap-distance.result ≡ distance_of c.args.o
 distance_is c =
     let s = c.before.before.before.before.before.before.before in
     let f : SFits w32 s.args.o.first = search rules in
     let g : SFits w32 s.args.o.second = search rules in
-    c.gap.ensures ∙ rw (c.before.magnitude2.ensures, c.before.before.before.magnitude.ensures, read f, read g)
+    c.gap-distance.ensures ∙ rw (c.magnitude-2.ensures, c.magnitude.ensures, read f, read g)
 
-tolerance_is : (c : tie.After-magnitude3) → c.magnitude3.result ≡ nat_abs (else-of c).before.before.args.o.tolerance
+tolerance_is : (c : tie.After-magnitude-3) → c.magnitude-3.result ≡ nat_abs (else-of c).args.o.tolerance
 tolerance_is c =
-    let f : SFits w32 (else-of c).before.before.args.o.tolerance = search rules in
-    c.magnitude3.ensures ∙ rw (read f)
+    let f : SFits w32 (else-of c).args.o.tolerance = search rules in
+    c.magnitude-3.ensures ∙ rw (read f)
 
-t_is : (c : tie.After-turns) → c.turns.result ≡ tOf (else-of c.before).before.before.args.o
-t_is c = c.turns.ensures ∙ ap₂ turns_of (tolerance_is c.before) (distance_is c.before.before.before)
+t_is : (c : tie.After-turns-t) → c.turns-t.result ≡ tOf (else-of c.before).args.o
+t_is c = c.turns-t.ensures ∙ ap₂ turns_of (tolerance_is c.before) (distance_is c.before.before.before)
 
-streak_is : (c : tie.After-allowed-streak) → c.allowed-streak.result ≡ allowed (method_of (start_of c).args.o)
-streak_is c = c.allowed-streak.ensures ∙ ap allowed c.before.method-of.ensures
+streak_is : (c : tie.After-allowed_streak) → c.allowed_streak.result ≡ allowed (method_of (start_of c).args.o)
+streak_is c = c.allowed_streak.ensures ∙ ap allowed c.method_of.ensures
 
-opening-refusal-requires : tie.Need-opening-refusal-requires
+opening-refusal-requires : tie.Need-opening_refusal-n-requires
 opening-refusal-requires c κs = search rules
 
-returns : tie.Need-returns
+returns : tie.Need-returns-then-n-ne0
 unfolding quote_of
 returns c =
-    let n = c.before.opening-refusal.ensures in
-    rw n (simp (ne_eqb _ 0 (λ e. c.if1.true (n ∙ e))))
+    let n = c.opening_refusal-n.ensures in
+    rw n (simp (ne_eqb _ 0 (λ e. c.if-n-ne0.true (n ∙ e))))
 
 magnitude-requires : tie.Need-magnitude-requires
 magnitude-requires c κs = search rules
@@ -61,41 +61,41 @@ magnitude-requires c κs = search rules
 magnitude-requires-2 : tie.Need-magnitude-requires-2
 magnitude-requires-2 c κs = search rules
 
-gap-requires : tie.Need-gap-requires
+gap-requires : tie.Need-gap-distance-requires
 gap-requires c κs = search rules
 
 magnitude-requires-3 : tie.Need-magnitude-requires-3
 magnitude-requires-3 c κs = search rules
 
-turns-requires : tie.Need-turns-requires
+turns-requires : tie.Need-turns-t-requires
 turns-requires c κs =
     let op = opening_fits (else-of c) in
     let τ = tolerance_is c in
     (rw τ op.tolerance.least, rw τ (omega (arith, op.tolerance.most)), rw (distance_is c.before.before) (omega (arith, op.apart)))
 
-method-of-requires : tie.Need-method-of-requires
+method-of-requires : tie.Need-method_of-requires
 method-of-requires c κs = search rules
 
-allowed-streak-requires : tie.Need-allowed-streak-requires
+allowed-streak-requires : tie.Need-allowed_streak-requires
 allowed-streak-requires c κs = search rules
 
-add-t6 : tie.Need-overflow-add-t6
+add-t6 : tie.Need-overflow_add-result
 add-t6 c = rw (streak_is c) (omega (arith, allowed_few (method_of (start_of c).args.o)))
 
-most_fits : (c : tie.After-allowed-streak) → 2 + (c.allowed-streak.result + 1) * c.before.before.turns.result ≤ slots
+most_fits : (c : tie.After-allowed_streak) → 2 + (c.allowed_streak.result + 1) * c.turns-t.result ≤ slots
 most_fits c =
     quote_fits (start_of c).args.o _ _ (streak_is c) (t_is c.before.before) (opening_fits (else-of c.before.before.before))
 
-mul-t9 : tie.Need-overflow-mul-t9
+mul-t9 : tie.Need-overflow_mul-result
 mul-t9 c = omega (arith, most_fits c)
 
-add-t10 : tie.Need-overflow-add-t10
+add-t10 : tie.Need-overflow_add-result-2
 add-t10 c = omega (arith, most_fits c)
 
-returns-2 : tie.Need-returns-2
+returns-2 : tie.Need-returns
 returns-2 c =
     let p = else-of c.before.before.before in
-    quote_is (start_of c).args.o _ _ (streak_is c) (t_is c.before.before) (sym p.before.opening-refusal.ensures ∙ p.if1.left)
+    quote_is (start_of c).args.o _ _ (streak_is c) (t_is c.before.before) (sym p.opening_refusal-n.ensures ∙ p.if-n-ne0.false)
 
 pub quote_spec : {M : Type 1} → statement M
 quote_spec =

@@ -5,7 +5,7 @@ use Rattle.rules.specs.Search.{answers_of, report_of}
 use Rattle.search.proofs.report_on.Statement.{statement}
 use Rattle.search.proofs.report_on.Tie as tie
 
-slice-aggregate-none : tie.Need-slice-aggregate-none
+slice-aggregate-none : tie.Need-slice_bounds-none-end
 slice-aggregate-none c = search rules
 
 follow-requires : tie.Need-follow-requires

@@ -14,25 +14,23 @@ use Rattle.verdicts.specs.Judged.{standing_by}
 use Rattle.verdicts.proofs.told.Statement.{statement}
 use Rattle.verdicts.proofs.told.Tie as tie
 
-returns : tie.Need-returns
+returns : tie.Need-returns-then-count-gt-SLOTS
 unfolding report_at standing_by
-returns c = let s = c.before.args in simp (
-  lt-ltb slots _ c.if1.true,
+returns c = let s = c.args in simp (
+  lt-ltb slots _ c.if-count-gt-SLOTS.true,
   answers_stay s.opening (Progress.Refused 9 0) s.points.now
       s.values.now refl,
 )
 
-slice-aggregate-follow : tie.Need-slice-aggregate-follow
-slice-aggregate-follow c =
-    let s = c.before.before in
-    sym (length-take-le s.args.count s.args.held.now (omega (arith, s.requires.0, c.before.if1.false)))
+slice-aggregate-follow : tie.Need-slice_bounds-follow-end
+slice-aggregate-follow c = search rules
 
 follow-requires : tie.Need-follow-requires
 follow-requires c κs = search rules
 
-returns-2 : tie.Need-returns-2
+returns-2 : tie.Need-returns
 unfolding standing_by
-returns-2 c = simp (le-ltb slots _ c.before.before.if1.false) c.follow.ensures
+returns-2 c = simp (le-ltb slots _ c.if-count-gt-SLOTS.false) c.follow.ensures
 
 pub told_spec : {M : Type 1} → statement M
 told_spec = tie.close (tie.spec returns slice-aggregate-follow follow-requires returns-2)

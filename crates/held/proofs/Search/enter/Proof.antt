@@ -22,25 +22,25 @@ with_report r h = record { report = r; search = h }
 long : (s : tie.Start) → length s.args.self.slots ≡ slots
 long s = search rules
 
-abbrev start_of : tie.After-judge-parts → tie.Start
+abbrev start_of : tie.After-judge_parts-v → tie.Start
 start_of c = c.before.before.before.before
 
-stored : (c : tie.After-judge-parts) → Stores (start_of c).args.self (start_of c).args.point (start_of c).args.value c.judge-parts.result
-stored c = let s = start_of c in stores _ _ _ _ (long s) (rw (read s.fits.point, read s.fits.value) at c.judge-parts.ensures)
+stored : (c : tie.After-judge_parts-v) → Stores (start_of c).args.self (start_of c).args.point (start_of c).args.value c.judge_parts-v.result
+stored c = let s = start_of c in stores _ _ _ _ (long s) (rw (read s.ranges.point, read s.ranges.value) at c.judge_parts-v.ensures)
 
-judge-parts-requires : tie.Need-judge-parts-requires
+judge-parts-requires : tie.Need-judge_parts-v-requires
 judge-parts-requires c κs = search rules
 
-mul-kept : tie.Need-overflow-mul-kept
+mul-kept : tie.Need-offset_bounds-next-at
 mul-kept c = omega (arith, (stored c.before).room)
 
-element-set-from-kept : tie.Need-element-set-from-kept
+element-set-from-kept : tie.Need-bounds-next-at
 element-set-from-kept c = (stored c.before).room
 
 returns : tie.Need-returns
 returns c =
     let s = (start_of c.before).args.self in
-    let v = c.before.judge-parts.result in
+    let v = c.judge_parts-v.result in
     let f : SFits w32 v.value = search rules in
     ap (λ (z : ℤ). with_report v.report (stored_by s (record { report = v.report; count = v.count; at = v.at; value = z }))) (read f)
     ∙ ap₂ with_report (stored c.before).told (stored c.before).left

@@ -7,14 +7,14 @@ use Rattle.held.specs.Held.{reopen_of}
 use Rattle.held.proofs.Search.fresh.Statement.{statement}
 use Rattle.held.proofs.Search.fresh.Tie as tie
 
-blank-requires : tie.Need-blank-requires
+blank-requires : tie.Need-blank-none-requires
 blank-requires c κs = search rules
 
 reopen-requires : tie.Need-reopen-requires
 reopen-requires c κs = search rules
 
 returns : tie.Need-returns
-returns c = c.reopen.ensures ∙ ap (λ (s : Search). reopen_of s c.before.before.args.opening) c.before.blank.ensures
+returns c = c.reopen.ensures ∙ ap (λ (s : Search). reopen_of s c.args.opening) c.blank-none.ensures
 
 pub fresh_spec : {M : Type 1} → statement M
 fresh_spec = tie.close (tie.spec blank-requires reopen-requires returns)

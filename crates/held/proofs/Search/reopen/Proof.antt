@@ -10,27 +10,27 @@ use Rattle.held.specs.HeldLaws.{open_refused, open_accepted}
 use Rattle.held.proofs.Search.reopen.Statement.{statement}
 use Rattle.held.proofs.Search.reopen.Tie as tie
 
-unanswered-requires : tie.Need-unanswered-requires
+unanswered-requires : tie.Need-unanswered-fresh-requires
 unanswered-requires c κs = search rules
 
-opening-refusal-requires : tie.Need-opening-refusal-requires
+opening-refusal-requires : tie.Need-opening_refusal-n-requires
 opening-refusal-requires c κs = search rules
 
-returns : tie.Need-returns
+returns : tie.Need-returns-then-n-ne0
 returns c =
-    let n = c.before.opening-refusal in
-    open_refused _ _ n.result n.ensures c.if1.true
+    let n = c.opening_refusal-n in
+    open_refused _ _ n.result n.ensures c.if-n-ne0.true
 
-magnitude-requires : tie.Need-magnitude-requires
+magnitude-requires : tie.Need-magnitude-point-requires
 magnitude-requires c κs = search rules
 
-returns-2 : tie.Need-returns-2
+returns-2 : tie.Need-returns
 returns-2 c =
     let p = c.before.before in
-    let n = p.before.opening-refusal in
-    let u = p.before.before.unanswered in
-    let f : SFits w32 p.before.before.before.args.opening.first = search rules in
-    open_accepted _ _ n.result n.ensures p.if1.false _ (c.magnitude.ensures ∙ ap nat_abs (read f)) _ u.ensures
+    let n = p.opening_refusal-n in
+    let u = p.unanswered-fresh in
+    let f : SFits w32 p.args.opening.first = search rules in
+    open_accepted _ _ n.result n.ensures p.if-n-ne0.false _ (c.magnitude-point.ensures ∙ ap nat_abs (read f)) _ u.ensures
 
 pub reopen_spec : {M : Type 1} → statement M
 reopen_spec = tie.close (tie.spec unanswered-requires opening-refusal-requires returns magnitude-requires returns-2)

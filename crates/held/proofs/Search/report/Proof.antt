@@ -7,10 +7,10 @@ use Rattle.held.specs.Held.{standing_of, held_report}
 use Rattle.held.proofs.Search.report.Statement.{statement}
 use Rattle.held.proofs.Search.report.Tie as tie
 
-slice-aggregate-told : tie.Need-slice-aggregate-told
+slice-aggregate-told : tie.Need-slice_bounds-told-end-2
 slice-aggregate-told c = search rules
 
-slice-aggregate-told-2 : tie.Need-slice-aggregate-told-2
+slice-aggregate-told-2 : tie.Need-slice_bounds-told-end-3
 slice-aggregate-told-2 c = search rules
 
 told-requires : tie.Need-told-requires
