@@ -26,14 +26,14 @@ add-t9 : tie.Need-overflow_add-result
 add-t9 c =
     let b = c.before in
     let g = b.before in
-    let a = g.before in
+    let a = g.before.before in
     omega (arith, inside a.args.s.now g.in-Is.next a.args.byte (sym b.byte_at.ensures ∙ c.if-byte_at-byte.true) a.requires)
 
 returns-2 : tie.Need-returns-then-byte_at-byte
 returns-2 c =
     let b = c.before in
     let g = b.before in
-    let a = g.before in
+    let a = g.before.before in
     let z : to_z w32 (of_z w32 g.in-Is.value) ≡ g.in-Is.value = search rules in
     simp (g.in-Is.is, z, eq-eqb _ a.args.byte (sym b.byte_at.ensures ∙ c.if-byte_at-byte.true))
 
@@ -41,7 +41,7 @@ returns-3 : tie.Need-returns-else-byte_at-byte
 returns-3 c =
     let b = c.before in
     let g = b.before in
-    let a = g.before in
+    let a = g.before.before in
     simp (g.in-Is.is, sym b.byte_at.ensures, ne_eqb _ a.args.byte c.if-byte_at-byte.false)
 
 pub before_byte_spec : {M : Type 1} → statement M

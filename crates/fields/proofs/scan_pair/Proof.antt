@@ -12,13 +12,13 @@ use Rattle.fields.proofs.scan_pair.Statement.{statement}
 use Rattle.fields.proofs.scan_pair.Tie as tie
 
 -- the first number was found
-abbrev start_of : tie.In-Is-2 → tie.Start
+abbrev start_of : tie.In-Is → tie.Start
 start_of c = c.before.before.before.before
 
-abbrev text_of : tie.In-Is-2 → List ℕ
+abbrev text_of : tie.In-Is → List ℕ
 text_of c = (start_of c).args.s.now
 
-first_found : (c : tie.In-Is-2)
+first_found : (c : tie.In-Is)
     → before_comma (text_of c) (field_at (text_of c) (start_of c).args.from) ≡ NumberScan.Is c.in-Is.first c.in-Is.middle
 first_found c =
     let b = c.before in
@@ -72,8 +72,8 @@ returns-3 : tie.Need-returns
 unfolding pair_at
 returns-3 c =
     let v = c in
-    let b = v in
-    let p = b.before in
+    let b = v.before in
+    let p = b.before.before in
     let a = (start_of p).args in
     let y : to_z w32 (of_z w32 p.in-Is.first) ≡ p.in-Is.first = search rules in
     let z : to_z w32 (of_z w32 v.in-Is-before_next.second) ≡ v.in-Is-before_next.second = search rules in

@@ -43,4 +43,10 @@ reach-requires c κs =
 pub offset_spec : {M : Type 1} → statement M
 offset_spec =
     tie.close
-    (tie.spec tolerance-at-requires cast-tolerance method-of-requires step-at-requires reach-requires returns)
+    (tie.spec
+    tolerance-at-requires
+    cast-tolerance
+    method-of-requires
+    step-at-requires
+    reach-requires
+    returns)

@@ -23,7 +23,7 @@ long : (s : tie.Start) → length s.args.self.slots ≡ slots
 long s = search rules
 
 abbrev start_of : tie.After-judge_parts-v → tie.Start
-start_of c = c.before.before.before.before
+start_of c = c.before.before.before
 
 stored : (c : tie.After-judge_parts-v) → Stores (start_of c).args.self (start_of c).args.point (start_of c).args.value c.judge_parts-v.result
 stored c = let s = start_of c in stores _ _ _ _ (long s) (rw (read s.ranges.point, read s.ranges.value) at c.judge_parts-v.ensures)
