@@ -60,7 +60,7 @@ digits_after {s} {n} (b ∷ t) r e =
     let d = digit_is b h.0 in
     let m : Digits (s ++ b ∷ []) (n * 10 + (b - 48)) =
     subst (λ (c : ℕ). Digits (s ++ c ∷ []) (n * 10 + (b - 48))) d.0 (Digits.more r (b - 48) (omega (arith, d.1))) in
-    subst (λ (u : List ℕ). Digits u (value_from (n * 10 + (b - 48)) t)) (append_snoc s b t) (digits_after t m h.1)
+    subst (λ (u : List ℕ). Digits u (value_from (n * 10 + (b - 48)) t)) (append_snoc s b t) (digits_after {s = s ++ b ∷ []} {n = n * 10 + (b - 48)} t m h.1)
 
 digits_of_value : (s : List ℕ) → IsNumeral s → Digits s (value_of s)
 unfolding value_from
@@ -201,6 +201,7 @@ fields_share : {fs : List (List ℕ)} {zs : List ℤ} {p : ℤ} → Spells fs zs
     → (s : List ℕ) × ShareText s p × (joined (k ∷ fs) ≡ k ++ s)
 fields_share Spells.none ShareNumbers.absent k = ([], ShareText.absent, sym (append-nil k))
 fields_share (Spells.more {f} e Spells.none) ShareNumbers.present k = (comma ∷ f, ShareText.present (read_field e), refl)
+fields_share {p = p} (Spells.more {f = f} {z = z} e (Spells.more {fs = fs} {zs = zs} _ _)) x k = elim x [ ]
 
 head_spelled : {head : List (List ℕ)} {zs : List ℤ} {t : List ℕ} (o : Opening) {answers : List Answer}
     → ShareNumbers zs o.share → Spells head (opening_numbers o zs) → AnswersText t answers → SheetText (joined head ++ t) o answers

@@ -11,62 +11,62 @@ use borrow.Author.Rules.{rules}
 use Rattle.records.proofs.read_with_share.Statement.{statement}
 use Rattle.records.proofs.read_with_share.Tie as tie
 
-scan-pair-requires : tie.Need-scan-pair-requires
+scan-pair-requires : tie.Need-scan_pair-requires
 scan-pair-requires c κs = search rules
 
-enum-known-x1 : tie.Need-enum-known-x1
+enum-known-x1 : tie.Need-enum_known-x1
 enum-known-x1 c = search rules
 
-enum_told : tie.Need-enum-told
+enum_told : tie.Need-enum_told-1
 enum_told c = search rules
 
-returns : tie.Need-returns
+returns : tie.Need-returns-in_default
 returns c =
-    let p = c.before.before in
-    let a = p.before.before.args in
-    sym (ap (opened_with_share a.text.now a.method a.x0) (sym p.scan-pair.ensures ∙ c.enum_told.given.1))
+    let p = c.before in
+    let a = p.args in
+    sym (ap (opened_with_share a.text.now a.method a.x0) (sym p.scan_pair.ensures ∙ c.in_default.is))
 
 -- x1 and τ were found
-abbrev start_of : tie.After-x1 → tie.Start
-start_of c = c.before.before.before.before
+abbrev start_of : tie.In-Are → tie.Start
+start_of c = c.before.before.before
 
-pair_found : (c : tie.After-x1)
+pair_found : (c : tie.In-Are)
     → pair_at false (start_of c).args.text.now (start_of c).args.at
-    ≡ PairScan.Are c.x1.given.0.0 c.x1.given.0.1.0 c.x1.given.0.1.1.0
-pair_found c = sym c.before.before.scan-pair.ensures ∙ c.x1.given.1
+    ≡ PairScan.Are c.in-Are.x1 c.in-Are.tolerance c.in-Are.last
+pair_found c = sym c.scan_pair.ensures ∙ c.in-Are.is
 
-scan-last-requires : tie.Need-scan-last-requires
+scan-last-requires : tie.Need-scan_last-requires
 scan-last-requires c κs = search rules
 
-enum-known-share : tie.Need-enum-known-share
+enum-known-share : tie.Need-enum_known-share
 enum-known-share c = search rules
 
-enum-told-2 : tie.Need-enum-told-2
+enum-told-2 : tie.Need-enum_told-in_default-scan_last
 enum-told-2 c = search rules
 
-returns-2 : tie.Need-returns-2
+returns-2 : tie.Need-returns-in_default-scan_last
 returns-2 c =
-    let l = c.before.before in
-    let x = l.before.before in
+    let l = c.before in
+    let x = l.before in
     let a = (start_of x).args in
     sym
     (ap (opened_with_share a.text.now a.method a.x0) (pair_found x)
-    ∙ ap (opened_with a.method a.x0 x.x1.given.0.0 x.x1.given.0.1.0) (sym l.scan-last.ensures ∙ c.enum-told2.given.1))
+    ∙ ap (opened_with a.method a.x0 x.in-Are.x1 x.in-Are.tolerance) (sym l.scan_last.ensures ∙ c.in_default-scan_last.is))
 
-returns-3 : tie.Need-returns-3
+returns-3 : tie.Need-returns
 returns-3 c =
-    let p = c.before in
-    let l = p.before.before in
-    let x = l.before.before in
+    let p = c in
+    let l = p.before in
+    let x = l.before in
     let s = start_of x in
     let a = s.args in
-    let y : to_z w32 (of_z w32 x.x1.given.0.0) ≡ x.x1.given.0.0 = search rules in
-    let z : to_z w32 (of_z w32 x.x1.given.0.1.0) ≡ x.x1.given.0.1.0 = search rules in
-    let w : to_z w32 (of_z w32 p.share.given.0.0) ≡ p.share.given.0.0 = search rules in
-    simp (to_z-of_z s.fits.method, to_z-of_z s.fits.x0, y, z, w)
+    let y : to_z w32 (of_z w32 x.in-Are.x1) ≡ x.in-Are.x1 = search rules in
+    let z : to_z w32 (of_z w32 x.in-Are.tolerance) ≡ x.in-Are.tolerance = search rules in
+    let w : to_z w32 (of_z w32 p.in-Is.share) ≡ p.in-Is.share = search rules in
+    simp (to_z-of_z s.ranges.method, to_z-of_z s.ranges.x0, y, z, w)
     (sym
     (ap (opened_with_share a.text.now a.method a.x0) (pair_found x)
-    ∙ ap (opened_with a.method a.x0 x.x1.given.0.0 x.x1.given.0.1.0) (sym l.scan-last.ensures ∙ p.share.given.1)))
+    ∙ ap (opened_with a.method a.x0 x.in-Are.x1 x.in-Are.tolerance) (sym l.scan_last.ensures ∙ p.in-Is.is)))
 
 pub read_with_share_spec : {M : Type 1} → statement M
 read_with_share_spec =

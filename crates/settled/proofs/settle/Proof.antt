@@ -21,23 +21,23 @@ going_on e (Report.Stop lower upper better taken) t = refl
 going_on e (Report.Refused n i) (inl t) = absurd (omega arith)
 going_on e (Report.Refused n i) (inr t) = absurd (omega arith)
 
-enum-known-report : tie.Need-enum-known-report
+enum-known-report : tie.Need-enum_known-report
 enum-known-report c = search rules
 
-add-refuse : tie.Need-overflow-add-refuse
+add-refuse : tie.Need-overflow_add-place
 add-refuse c =
-    let s = c.before.before.before in
-    let h = subst (Below s.args.e.count) c.before.report.given.1 s.requires.0 in
+    let s = c.before in
+    let h = subst (Below s.args.e.count) c.in-Refused.is s.requires.0 in
     omega (arith, h, s.requires.1)
 
 refuse-requires : tie.Need-refuse-requires
 refuse-requires c κs = search rules
 
-returns : tie.Need-returns
-returns c = rw c.before.before.report.given.1 c.refuse.ensures
+returns : tie.Need-returns-in-Refused
+returns c = rw c.in-Refused.is c.refuse.ensures
 
-returns-2 : tie.Need-returns-2
-returns-2 c = going_on _ _ c.before.before.match.keys2
+returns-2 : tie.Need-returns
+returns-2 c = going_on c.args.e c.args.report c.in_default.in_default-own.keys2
 
 pub settle_spec : {M : Type 1} → statement M
 settle_spec =

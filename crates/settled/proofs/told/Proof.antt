@@ -16,21 +16,21 @@ points_are s = length-take-le s.args.count s.args.points.now s.requires.1
 values_are : (s : tie.Start) → length (take s.args.count s.args.values.now) ≡ s.args.count
 values_are s = length-take-le s.args.count s.args.values.now (omega (arith, s.requires.1, s.requires.2))
 
-slice-aggregate-follow : tie.Need-slice-aggregate-follow
+slice-aggregate-follow : tie.Need-slice_bounds-follow-end
 slice-aggregate-follow c = search rules
 
-slice-aggregate-follow-2 : tie.Need-slice-aggregate-follow-2
-slice-aggregate-follow-2 c = sym (points_are c.before.before)
+slice-aggregate-follow-2 : tie.Need-slice_bounds-follow-end-2
+slice-aggregate-follow-2 c = search rules
 
-slice-aggregate-follow-3 : tie.Need-slice-aggregate-follow-3
-slice-aggregate-follow-3 c = sym (values_are c.before.before.before)
+slice-aggregate-follow-3 : tie.Need-slice_bounds-follow-end-3
+slice-aggregate-follow-3 c = search rules
 
 follow-requires : tie.Need-follow-requires
-follow-requires c κs = let s = c.before.before.before in points_are s ∙ sym (values_are s)
+follow-requires c κs = points_are c ∙ sym (values_are c)
 
 returns : tie.Need-returns
 unfolding progress_of begin_of
-returns c = let s = c.before.before.before.before in simp (eq-eqb _ 0 s.requires.0) at c.follow.ensures
+returns c = simp (eq-eqb _ 0 c.requires.0) at c.follow.ensures
 
 pub told_spec : {M : Type 1} → statement M
 told_spec =
