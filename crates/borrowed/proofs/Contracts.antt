@@ -3,7 +3,7 @@
 --     by_value, lent, shown        the signatures: of the step, and of a function over a `&mut S` and over a `&S`
 --     Returning    the step's contract: it asks nothing, and returns what a definition says.        to_step      what that binds for a call
 --     asks         what a copy of S owns, with the values beside it, is all that the step asks
---     ends-lent, ends-shown        the exit of a function over a `&mut S` that leaves another S there, and of one over a `&S`
+--     ends_lent, ends_shown        the exit of a function over a `&mut S` that leaves another S there, and of one over a `&S`
 --     Beside, BesideLaws           what a step returns that tells a result, R, and the S to leave: a struct of the two, in this order
 -- Assumes nothing.
 use mathlib.Core.Path.{◌≡◌, refl}
@@ -13,7 +13,7 @@ use seplogic.Ra.Ura.{Ura}
 use mir.Syntax.{Sym, Ty, ty_struct, tcons, tnil}
 use mir.Val.{Val, vptr, vstruct, vcons, vnil}
 use base.Logic.{ent, sep, emp}
-use base.Fml.{GName, Lft, Share, flft, fobs, fbor, fres, fshr_bor}
+use base.Fml.{GName, Lft, Share, flft, fobs, fbor}
 use types.Logic.{Logic, sem}
 use contract.Lifetimes.{Lfts}
 use contract.Monad.{fact}
@@ -21,8 +21,8 @@ use types.Kit.{‵, ⋆, ◌$◌, ◌∵◌, !, qed, move, use0, join, fjoin, fj
 use types.SemTy.{Body}
 use denote.RattleType.{RattleType, Denots, Valss, owns}
 use denote.Laws.{Is, Tells, Lawful}
-use denote.Memory.{mem, part_at}
-use denote.Ref.{MutBor}
+use denote.Memory.{mem, hidden_shr}
+use denote.Ref.{Bor, MutBor}
 use denote.Signature.{Slot, plain, mut_ref_to, shr_ref_to, types_at}
 use denote.Steps.{owned, nothing}
 use denote.Triple.Statement.{Contract}
@@ -104,9 +104,9 @@ module _ {M : Type 1} {𝓤 : Ura M} (𝓛 : Logic 𝓤) where
     to_step = ((tt, tt, tt, (h, a), (vals S h, vss)), tt)
 
     pub asks : ent 𝓤 (emp 𝓤) (sem 𝓛 (owns (types_at ss tt) a vss))
-        → ent 𝓤 (sem 𝓛 ((row S).own h (vals S h))) ((Returning (by_value S E ss ks) of).pre to_step)
+        → ent 𝓤 (sem 𝓛 ((row S).own_val h (vals S h))) ((Returning (by_value S E ss ks) of).pre to_step)
     asks had =
-        qed 𝓛 (‵ ((row S).own h (vals S h)) ∷ []) ∵ use0 𝓛 (‵ (owns (types_at ss tt) a vss)) had $ move ! (1 ∷ 0 ∷ []) $ fjoin ! $
+        qed 𝓛 (‵ ((row S).own_val h (vals S h)) ∷ []) ∵ use0 𝓛 (‵ (owns (types_at ss tt) a vss)) had $ move ! (1 ∷ 0 ∷ []) $ fjoin ! $
         nothing ! $ join ! $ frame ! $ done !
 
   -- ---- the exits. a are the values beside S, vss their machine values and ws what is bound for their last values; c is the function's
@@ -131,14 +131,18 @@ module _ {M : Type 1} {𝓤 : Ura M} (𝓛 : Logic 𝓤) where
           use0 𝓛 (‵ (has_of (κ, tt) ss ks hs a ws vss)) had $ move ! (1 ∷ 0 ∷ []) $ fjoin ! $ frame ! $
           owned ! (row R) (Is (row R)) (R.makes 𝓛) r _ is $ done !
 
-      pub ends_shown : (c : Clauses 𝓤 (shown S R ss ks)) (g : (c (κ, tt) x).ghost) (r : R.type.Denot) (w : Val)
-          → ent 𝓤 (emp 𝓤) ((c (κ, tt) x).ensures g r (at_exit (shown S R ss ks) (κ, tt) x (tt, ws)))
-          → ent 𝓤 (⋆ 𝓛 (‵ (flft κ q) ∷ ‵ (fres γ ((row S).coded.code h)) ∷ ‵ (fshr_bor κ (λ s. part_at (row S) s h b o)) ∷
-          ‵ ((row R).own r (w ∷ [])) ∷ []))
-          ((walk_of 𝓛 (shown S R ss ks) (shown_stays S R ss ks hs) c).post (((κ, tt), (q, tt), tt, x, (vptr b o ∷ [], vss)), g) w)
+    module _ (κ : Lft) (q : Share) (b o : ℕ) (h : S.type.Denot) (a : Denots (types_at ss (κ, tt))) (vss : Valss (types_at ss (κ, tt)))
+        (ws : Fins (κ, tt) ss ks a) (fits : fits_of (κ, tt) ss ks hs a ws) (had : ent 𝓤 (emp 𝓤) (sem 𝓛 (has_of (κ, tt) ss ks hs a ws vss))) where
+      abbrev y : Bor S.type.Denot × Denots (types_at ss (κ, tt))
+      y = (record { ref_ptr = (b, o); now = h }, a)
+
+      pub ends_shown : (c : Clauses 𝓤 (shown S R ss ks)) (g : (c (κ, tt) y).ghost) (r : R.type.Denot) (w : Val)
+          → ent 𝓤 (emp 𝓤) ((c (κ, tt) y).ensures g r (at_exit (shown S R ss ks) (κ, tt) y (tt, ws)))
+          → ent 𝓤 (⋆ 𝓛 (‵ (flft κ q) ∷ ‵ (hidden_shr (row S) κ h b o) ∷ ‵ ((row R).own_val r (w ∷ [])) ∷ []))
+          ((walk_of 𝓛 (shown S R ss ks) (shown_stays S R ss ks hs) c).post (((κ, tt), (q, tt), tt, y, (vptr b o ∷ [], vss)), g) w)
       ends_shown c g r w said =
-          qed 𝓛 (‵ (flft κ q) ∷ ‵ (fres γ ((row S).coded.code h)) ∷ ‵ (fshr_bor κ (λ s. part_at (row S) s h b o)) ∷ ‵ ((row R).own r (w ∷ [])) ∷ []) ∵
-          suffices ! _ (ends_at 𝓛 (shown S R ss ks) (shown_stays S R ss ks hs) c (((κ, tt), (q, tt), tt, x, (vptr b o ∷ [], vss)), g) w r
+          qed 𝓛 (‵ (flft κ q) ∷ ‵ (hidden_shr (row S) κ h b o) ∷ ‵ ((row R).own_val r (w ∷ [])) ∷ []) ∵
+          suffices ! _ (ends_at 𝓛 (shown S R ss ks) (shown_stays S R ss ks hs) c (((κ, tt), (q, tt), tt, y, (vptr b o ∷ [], vss)), g) w r
           (tt, ws) (tt, fits)) $
-          holds ! said $ nothing ! $ move ! (1 ∷ 0 ∷ []) $ join ! $ frame ! $ feq_i ! (List Val) (vptr b o ∷ []) (vptr b o ∷ []) refl $ fjoin3 ! $
+          holds ! said $ nothing ! $ move ! (1 ∷ 0 ∷ []) $ join ! $ frame ! $ feq_i ! (List Val) (vptr b o ∷ []) (vptr b o ∷ []) refl $ fjoin ! $
           use0 𝓛 (‵ (has_of (κ, tt) ss ks hs a ws vss)) had $ move ! (1 ∷ 0 ∷ []) $ fjoin ! $ frame ! $ done !

@@ -5,17 +5,17 @@ use mathlib.Core.Path.{◌≡◌, refl}
 use Prim.Native.Nat.{ℕ}
 use mathlib.Core.List.{[], ◌∷◌, List}
 use seplogic.Ra.Ura.{Ura}
-use mir.Syntax.{Fn, Name, ty_ref, local, value_local, named, imm, place, deref, copy, rv_opd, assign, call, seq, return}
+use mir.Syntax.{Fn, Callee, ty_ref, local, value_local, named, imm, place, deref, copy, rv_opd, assign, call, seq, return}
 use mir.Val.{Val, vptr}
 use base.Logic.{SProp, ent, emp, via, fst∗, id⊢}
-use base.Fml.{GName, Lft, Share, ftrue, flft}
+use base.Fml.{Lft, Share, ftrue, flft}
 use prog.Wp.{Calls, Loops, WpFn, Closed}
 use types.Logic.{Logic}
 use prog.Model.{Model}
 use prog.Routine.{Routine, Env}
 use contract.Lifetimes.{Lfts}
 use contract.Running.{Running, tables}
-use types.Kit.{‵, raw, ◌⊛◌, ◌$◌, ◌∵◌, !, qed, by, move, keep, drop, use1, split, fsplit, fsplit3}
+use types.Kit.{‵, raw, ◌⊛◌, ◌$◌, ◌∵◌, !, qed, by, move, keep, drop, use1, split, fsplit}
 use types.Run.{look, look_raw, init, forget, stop, hop, from, load, and_then, no_more, of_opd, assigns, land, returns, enter, alloc1, alloc0, params1}
 use types.Run.{pass1, pass0, free1, free0}
 use sound.WpLaws.{FmC}
@@ -38,11 +38,13 @@ use Rattle.borrowed.proofs.Contracts.{by_value, shown, shown_stays, returning, R
 module _ (S R : Plain) where
   -- ---- the code, and the two contracts
 
-  abbrev pub function : Name → Fn
+  abbrev pub function : Callee → Fn
   function step =
       record {
         lifetimes = 1;
         outlives = [];
+        ty_params = [];
+        givens = 0;
         params = 1;
         locals = local R.mir value_local ∷ local (ty_ref (named 0) imm (pointee S.type.written)) value_local ∷ local S.mir value_local ∷ [];
         body =
@@ -77,7 +79,7 @@ module _ (S R : Plain) where
     module _ (c : Clauses 𝓤 ended) (unanswered : Holds c) where
       -- ---- the walk
 
-      module _ (κ : Lft) (q : Share) (b o : ℕ) (γ : GName) (h : S.type.Denot)
+      module _ (κ : Lft) (q : Share) (b o : ℕ) (h : S.type.Denot)
           (g : (c (κ, tt) (record { ref_ptr = (b, o); now = h }, tt)).ghost) where
         abbrev x : Bor S.type.Denot × Unit {0}
         x = (record { ref_ptr = (b, o); now = h }, tt)
@@ -91,37 +93,37 @@ module _ (S R : Plain) where
         abbrev call_at : StepC.Ghost
         call_at = to_step 𝓛 S (row R) [] tt by_of h tt tt
 
-        module _ (step : Name) (C : Calls 𝓤 H) (Λ : Loops 𝓤 H) (fm : FmC 𝓤 H 𝓛.laws C) (known : Triple 𝓤 (C step) StepC) where
+        module _ (step : Callee) (C : Calls 𝓤 H) (Λ : Loops 𝓤 H) (fm : FmC 𝓤 H 𝓛.laws C) (known : Triple 𝓤 (C step) StepC) where
           walk : ent 𝓤 (on_entry 𝓛 ended.signature (κ, tt) (q, tt) x at) (WpFn 𝓤 H C Λ (function step) (vptr b o ∷ []) Post)
           walk =
               qed 𝓛 ((‵ (flft κ q) ⊛ ‵ ftrue) ∷ ‵ (owns (ShrRef (named 0) κ (row S) ∷ []) x at) ∷ []) ∵ enter ! C Λ (function step) (vptr b o ∷ []) _ $
               alloc1 ! (λ l₀. alloc1 ! (λ l₁. alloc1 ! (λ l₂. alloc0 ! $ params1 ! $ pass1 ! (init ! 2 refl (tt, tt)) $ pass0 ! $
               -- [_2; …; _1; …; room for _0; …; the token and true; what the parameter owns]
-              move ! (7 ∷ []) $ fsplit ! $ fsplit3 ! $ drop ! $ move ! (9 ∷ []) $ split ! $ move ! (3 ∷ 0 ∷ []) $
+              move ! (7 ∷ []) $ fsplit ! $ fsplit ! $ drop ! $ move ! (8 ∷ []) $ split ! $ move ! (2 ∷ 0 ∷ []) $
               looked_into S ! tt h b o (λ p was.
-              -- [a share of the struct's cell; what it owns; what shuts it; the fractured borrow; true; res; true; _2 (7); …; _1 (9); …;
-              -- room for _0 (11); …]
-              assigns ! (of_opd ! (load ! (from ! (hop ! (look ! 9 refl) (stop !))) (look_raw ! 0 refl))) (from ! (stop !))
-              (init ! 7 refl ((S.lawful 𝓛).typed h _ was).0) $
+              -- [a share of the struct's cell; what it owns; what shuts it; what the `&` holds; true; true; _2 (6); …; _1 (8); …;
+              -- room for _0 (10); …]
+              assigns ! (of_opd ! (load ! (from ! (hop ! (look ! 8 refl) (stop !))) (look_raw ! 0 refl))) (from ! (stop !))
+              (init ! 6 refl ((S.lawful 𝓛).typed h _ was).0) $
               shuts ! tt (row S) p h (vals S h) b o $
-              -- [the token; the fractured borrow; true; res; true; _2 (5); …; _1 (7); …; room for _0 (9); …]
+              -- [the token; what the `&` holds; true; true; _2 (4); …; _1 (6); …; room for _0 (8); …]
               owned ! (row S) (Is (row S)) (S.makes 𝓛) h _ was $
               use1 𝓛 (raw (StepC.pre call_at)) (asks 𝓛 S (row R) [] tt by_of h tt tt (id⊢ 𝓤 _)) $
-              calls_at ! fm StepC known call_at (and_then ! (load ! (from ! (stop !)) (look ! 6 refl)) (no_more !)) (λ w.
+              calls_at ! fm StepC known call_at (and_then ! (load ! (from ! (stop !)) (look ! 5 refl)) (no_more !)) (λ w.
               answered ! tt step_ended (returning 𝓛 step_ended by_of) call_at w (λ (r : R.type.Denot). r ≡ of h) (λ r ws. id⊢ 𝓤 _) (λ r e is.
-              -- [what the result owns; the token; the fractured borrow; true; res; true; _2 (6); …; _1 (8); …; room for _0 (10); …]
-              land ! (from ! (stop !)) (init ! 10 refl ((R.lawful 𝓛).typed r _ is).0) $
-              returns ! (look ! 10 refl) $ forget ! 6 refl $ forget ! 8 refl $ forget ! 10 refl $ move ! (10 ∷ 11 ∷ []) $ free1 ! $
-              move ! (8 ∷ 9 ∷ []) $ free1 ! $ move ! (6 ∷ 7 ∷ []) $ free1 ! $ free0 ! $
-              keep ! (1 ∷ 4 ∷ 2 ∷ 0 ∷ []) $ by ! (ends_shown 𝓛 S R [] tt tt κ q b o γ h tt tt tt tt (id⊢ 𝓤 _) c g r w
+              -- [what the result owns; the token; what the `&` holds; true; true; _2 (5); …; _1 (7); …; room for _0 (9); …]
+              land ! (from ! (stop !)) (init ! 9 refl ((R.lawful 𝓛).typed r _ is).0) $
+              returns ! (look ! 9 refl) $ forget ! 5 refl $ forget ! 7 refl $ forget ! 9 refl $ move ! (9 ∷ 10 ∷ []) $ free1 ! $
+              move ! (7 ∷ 8 ∷ []) $ free1 ! $ move ! (5 ∷ 6 ∷ []) $ free1 ! $ free0 ! $
+              keep ! (1 ∷ 2 ∷ 0 ∷ []) $ by ! (ends_shown 𝓛 S R [] tt tt κ q b o h tt tt tt tt (id⊢ 𝓤 _) c g r w
               (unanswered (κ, tt) x g r e))))))))
 
-      walks : (step : Name) (C : Calls 𝓤 H) (Λ : Loops 𝓤 H) → FmC 𝓤 H 𝓛.laws C → Triple 𝓤 (C step) StepC
+      walks : (step : Callee) (C : Calls 𝓤 H) (Λ : Loops 𝓤 H) → FmC 𝓤 H 𝓛.laws C → Triple 𝓤 (C step) StepC
           → Walks 𝓛 ended stayed (WpFn 𝓤 H C Λ (function step)) c
       walks step C Λ fm known =
           walked 𝓛 ended stayed c (WpFn 𝓤 H C Λ (function step)) (λ κs. (shr_vals, tt)) (λ κs. (shr_Tells (named 0) κs.0 (row S), tt))
           (λ κs qs bounds a g are. via 𝓤 _ (fst∗ 𝓤 _ ((c κs a).requires g))
-          (walk κs.0 qs.0 a.0.ref_ptr.0 a.0.ref_ptr.1 0 a.0.now g step C Λ fm known))
+          (walk κs.0 qs.0 a.0.ref_ptr.0 a.0.ref_ptr.1 a.0.now g step C Λ fm known))
 
   goes : {M : Type 1} {𝓤 : Ura M} (𝓛 : Logic 𝓤) → AllGo 𝓛 1 ended.signature.params ended.kept stayed
   goes 𝓛 = (Goes-none_ref 𝓛 1 (0 ∷ []) tt (value S) yes, tt)
@@ -130,7 +132,7 @@ module _ (S R : Plain) where
   pub looks_whole : (of : S.type.Denot → R.type.Denot)
       {M : Type 1} {𝓤 : Ura M} (𝓛 : Logic 𝓤) (𝓜 : Model 𝓤 𝓛.H) (𝓡 : Running 𝓤 𝓛.H 𝓜)
       (c : Clauses 𝓤 ended) → Holds of 𝓛 c
-      → (γ : Env) (k step : Name) → Closed 𝓤 𝓛.H (tables 𝓤 𝓛.H 𝓜 𝓡 γ).C (tables 𝓤 𝓛.H 𝓜 𝓡 γ).Λ k (function step)
+      → (γ : Env) (k step : Callee) → Closed 𝓤 𝓛.H (tables 𝓤 𝓛.H 𝓜 𝓡 γ).C (tables 𝓤 𝓛.H 𝓜 𝓡 γ).Λ k (function step)
       → (r : Routine) → γ step ≡ r → Triple 𝓤 (𝓡.run r) (StepC of 𝓛)
       → Triple 𝓤 ((tables 𝓤 𝓛.H 𝓜 𝓡 γ).C k) (triple_of 𝓛 ended.signature (closing 𝓛 ended c))
   looks_whole of 𝓛 𝓜 𝓡 c unanswered γ k step closed r p met =

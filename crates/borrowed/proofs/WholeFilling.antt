@@ -7,11 +7,11 @@ use Prim.Native.Nat.{ℕ}
 use mathlib.Core.List.{[], ◌∷◌, List}
 use lib.ListN.{length}
 use seplogic.Ra.Ura.{Ura}
-use seplogic.Ra.TreeShare.{full_share}
-use mir.Syntax.{Fn, Name, ty_ref, local, value_local, named, erased, imm, mut, place, deref, field, copy, rv_opd, addr_of, aggregate, assign, call, seq, return}
+use base.Fraction.{full_share}
+use mir.Syntax.{Fn, Callee, ty_ref, local, value_local, named, erased, imm, mut, place, deref, field, copy, rv_opd, addr_of, aggregate, assign, call, seq, return}
 use mir.Val.{Val, vptr}
 use base.Logic.{SProp, ent, sep, emp, via, fst∗, id⊢}
-use base.Fml.{GName, Lft, Share, ftrue, flft, fobs, fbor, fat}
+use base.Fml.{Fml, GName, Lft, Share, fsep, ftrue, flft, fobs, fbor, fat}
 use prog.Wp.{Calls, Loops, WpFn, Closed}
 use types.Logic.{Logic, sem}
 use prog.Model.{Model}
@@ -24,14 +24,15 @@ use types.Kit.{suffices, frame, done}
 use types.Run.{look, look_raw, store_raw, init, forget, stop, hop, fld, from, load, addr, and_then, no_more, of_opd, assigns, land, returns, enter}
 use types.Run.{alloc1, alloc0, params1, pass1, pass0, free1, free0}
 use types.Part.{agg, whole, sub, look_in}
-use types.SemTy.{Body}
+use types.SemTy.{Arr, Body}
+use types.Hole.{Holey}
 use sound.WpLaws.{FmC}
 use denote.RattleType.{owns}
 use denote.Laws.{Is}
 use denote.Memory.{mem, pointee}
 use denote.Builtin.{u8}
-use denote.Ref.{Bor, MutBor, MutRef, shr_vals, mut_Tells}
-use denote.Slice.{slice_ty, slice_val, MutSlice, ShrSlice, Room, finally, shr_slice_vals, mut_slice_Tells, shr_slice_Tells}
+use denote.Ref.{Bor, MutBor, MutRef, mut_vals, mut_Tells}
+use denote.Slice.{slice_ty, slice_val, MutSlice, ShrSlice, Room, finally, shr_slice_vals, mut_slice_vals, mut_slice_Tells, shr_slice_Tells}
 use denote.Signature.{Slot, plain, mut_ref_to, shr_slice_of, mut_slice_of}
 use denote.Steps.{only, owned, nothing}
 use denote.Triple.Statement.{Contract, Triple}
@@ -51,23 +52,27 @@ bytes = plain (λ _. u8)
 module _ (S R : Plain) (E : Beside S R) (L : BesideLaws E) where
   -- ---- the code, and the two contracts
 
-  abbrev pub function : Name → Fn
+  abbrev pub function : Callee → Fn
   function step =
       record {
         lifetimes = 3;
         outlives = [];
+        ty_params = [];
+        givens = 0;
         params = 3;
         locals = local R.mir value_local ∷ local (ty_ref (named 0) mut (pointee S.type.written)) value_local ∷
             local (slice_ty (ty_ref (named 1) imm (pointee u8.written))) value_local ∷
             local (slice_ty (ty_ref (named 2) mut (pointee u8.written))) value_local ∷ local (mir_e E) value_local ∷ local S.mir value_local ∷
-            local (ty_ref erased mut (pointee u8.written)) value_local ∷ local (slice_ty (ty_ref erased mut (pointee u8.written))) value_local ∷ [];
+            local (ty_ref erased mut (pointee u8.written)) value_local ∷ local (slice_ty (ty_ref erased mut (pointee u8.written))) value_local ∷
+            local S.mir value_local ∷ [];
         body =
             seq (assign (place 5 []) (rv_opd (copy (place 1 (deref S.mir ∷ [])))))
             (seq (assign (place 6 []) (addr_of (place 3 (field 0 ∷ deref (pointee u8.written) ∷ []))))
             (seq (assign (place 7 []) (aggregate (copy (place 6 []) ∷ copy (place 3 (field 1 ∷ [])) ∷ [])))
             (seq (call step (copy (place 5 []) ∷ copy (place 2 []) ∷ copy (place 7 []) ∷ []) (place 4 []))
-            (seq (assign (place 1 (deref S.mir ∷ [])) (rv_opd (copy (place 4 (field 1 ∷ [])))))
-            (seq (assign (place 0 []) (rv_opd (copy (place 4 (field 0 ∷ []))))) return)))));
+            (seq (assign (place 8 []) (rv_opd (copy (place 4 (field 1 ∷ [])))))
+            (seq (assign (place 1 (deref S.mir ∷ [])) (rv_opd (copy (place 8 []))))
+            (seq (assign (place 0 []) (rv_opd (copy (place 4 (field 0 ∷ []))))) return))))));
       }
 
   abbrev pub ended : Ended
@@ -127,13 +132,17 @@ module _ (S R : Plain) (E : Beside S R) (L : BesideLaws E) where
       -- ---- the walk. κ, q and h are the struct's lifetime, its share and the struct; κ₁, q₁ and xs those of the bytes that are read, and κ₂,
       -- q₂, γ₂ and ys those of the bytes that are left
 
-      module _ (κ κ₁ κ₂ : Lft) (q q₁ q₂ : Share) (b o : ℕ) (γ : GName) (h : S.type.Denot) (b₁ o₁ : ℕ) (γ₁ : GName) (xs : List ℕ)
+      module _ (κ κ₁ κ₂ : Lft) (q q₁ q₂ : Share) (b o : ℕ) (γ : GName) (h : S.type.Denot) (b₁ o₁ : ℕ) (xs : List ℕ)
           (b₂ o₂ : ℕ) (γ₂ : GName) (ys : List ℕ) where
-        abbrev read : MutBor (List ℕ)
-        read = record { ref_ptr = (b₁, o₁); ghost_name = γ₁; now = xs }
+        abbrev read : Bor (List ℕ)
+        read = record { ref_ptr = (b₁, o₁); now = xs }
 
-        abbrev filled : Bor (List ℕ)
+        abbrev filled : MutBor (List ℕ)
         filled = record { ref_ptr = (b₂, o₂); ghost_name = γ₂; now = ys }
+
+        -- what is had at the end of the bytes that are left, where the last are zs
+        abbrev given_up : List ℕ → Fml
+        given_up zs = fsep (finally u8 γ₂ zs) (fbor κ₂ (Body (Arr (Holey (mem u8)) (length ys)) b₂ o₂ γ₂))
 
         -- the machine values of the two: a pointer and a count each
         abbrev s₁ : Val
@@ -142,7 +151,7 @@ module _ (S R : Plain) (E : Beside S R) (L : BesideLaws E) where
         abbrev s₂ : Val
         s₂ = slice_val (b₂, o₂) (length ys)
 
-        abbrev x : Bor S.type.Denot × (Bor (List ℕ) × (Bor (List ℕ) × Unit {0}))
+        abbrev x : MutBor S.type.Denot × (Bor (List ℕ) × (MutBor (List ℕ) × Unit {0}))
         x = (record { ref_ptr = (b, o); ghost_name = γ; now = h }, (read, (filled, tt)))
 
         abbrev at : List Val × (List Val × (List Val × Unit {0}))
@@ -166,10 +175,10 @@ module _ (S R : Plain) (E : Beside S R) (L : BesideLaws E) where
           -- the exit, at what the step returned and left
           exits : (r : E.type.Denot) → Is (row R) (E.told r) (vals R (E.told r)) → (zs : List ℕ) → Told h xs ys r zs → length zs ≡ length ys
               → ent 𝓤 (⋆ 𝓛 (‵ (flft κ q) ∷ (‵ (flft κ₁ q₁) ⊛ (‵ (flft κ₂ q₂) ⊛ ‵ ftrue)) ∷ ‵ (fobs γ ((row S).coded.code (E.left r))) ∷
-              ‵ (fbor κ (Body (mem (row S)) b o γ)) ∷ ‵ (finally u8 γ₂ zs) ∷ [])) (Post (R.val (E.told r)))
+              ‵ (fbor κ (Body (mem (row S)) b o γ)) ∷ ‵ (given_up zs) ∷ [])) (Post (R.val (E.told r)))
           exits r is zs e l =
               qed 𝓛 (‵ (flft κ q) ∷ (‵ (flft κ₁ q₁) ⊛ (‵ (flft κ₂ q₂) ⊛ ‵ ftrue)) ∷ ‵ (fobs γ ((row S).coded.code (E.left r))) ∷
-              ‵ (fbor κ (Body (mem (row S)) b o γ)) ∷ ‵ (finally u8 γ₂ zs) ∷ []) ∵
+              ‵ (fbor κ (Body (mem (row S)) b o γ)) ∷ ‵ (given_up zs) ∷ []) ∵
               suffices ! _ (ends_at 𝓛 ended stayed c (((κ, (κ₁, (κ₂, tt))), (q, (q₁, (q₂, tt))), tt, x, at), g) (R.val (E.told r)) (E.told r)
               (E.left r, (tt, (zs, tt))) (tt, (tt, (l, tt)))) $
               holds ! (unanswered (κ, (κ₁, (κ₂, tt))) x g r zs e) $ join ! $ frame ! $
@@ -177,7 +186,7 @@ module _ (S R : Plain) (E : Beside S R) (L : BesideLaws E) where
               nothing ! $ move ! (2 ∷ 0 ∷ []) $ fjoin ! $ nothing ! $ fjoin ! $ move ! (1 ∷ 0 ∷ []) $ fjoin ! $ frame ! $
               owned ! (row R) (Is (row R)) (R.makes 𝓛) (E.told r) _ is $ done !
 
-          module _ (step : Name) (C : Calls 𝓤 H) (Λ : Loops 𝓤 H) (fm : FmC 𝓤 H 𝓛.laws C) (known : Triple 𝓤 (C step) StepC) where
+          module _ (step : Callee) (C : Calls 𝓤 H) (Λ : Loops 𝓤 H) (fm : FmC 𝓤 H 𝓛.laws C) (known : Triple 𝓤 (C step) StepC) where
             walk : Room u8 (length xs) → Room u8 (length ys)
                 → ent 𝓤 (on_entry 𝓛 ended.signature (κ, (κ₁, (κ₂, tt))) (q, (q₁, (q₂, tt))) x at)
                 (WpFn 𝓤 H C Λ (function step) (vptr b o ∷ s₁ ∷ s₂ ∷ []) Post)
@@ -185,58 +194,59 @@ module _ (S R : Plain) (E : Beside S R) (L : BesideLaws E) where
                 qed 𝓛 ((‵ (flft κ q) ⊛ (‵ (flft κ₁ q₁) ⊛ (‵ (flft κ₂ q₂) ⊛ ‵ ftrue))) ∷
                 ‵ (owns (MutRef (named 0) κ (row S) ∷ ShrSlice (named 1) κ₁ u8 ∷ MutSlice (named 2) κ₂ u8 ∷ []) x at) ∷ []) ∵
                 enter ! C Λ (function step) (vptr b o ∷ s₁ ∷ s₂ ∷ []) _ $
-                alloc1 ! (λ l₀. alloc1 ! (λ l₁. alloc1 ! (λ l₂. alloc1 ! (λ l₃. alloc1 ! (λ l₄. alloc1 ! (λ l₅. alloc1 ! (λ l₆. alloc1 ! (λ l₇. alloc0 ! $
-                params1 ! $ pass1 ! (init ! 12 refl (tt, tt)) $ pass1 ! (init ! 10 refl (tt, (tt, (record { fits = room₁.0 }, tt)))) $
-                pass1 ! (init ! 8 refl (tt, (tt, (record { fits = room₂.0 }, tt)))) $ pass0 ! $
-                -- [_7; …; _6; …; _5; …; _4; …; _3; …; _2; …; _1; …; room for _0; …; the tokens and true; what the parameters own]
-                move ! (17 ∷ []) $ fsplit ! $ fsplit3 ! $ drop ! $ move ! (19 ∷ []) $ split ! $ move ! (2 ∷ 3 ∷ 0 ∷ []) $
+                alloc1 ! (λ l₀. alloc1 ! (λ l₁. alloc1 ! (λ l₂. alloc1 ! (λ l₃. alloc1 ! (λ l₄. alloc1 ! (λ l₅. alloc1 ! (λ l₆. alloc1 ! (λ l₇. alloc1 ! (λ l₈. alloc0 ! $
+                params1 ! $ pass1 ! (init ! 14 refl (tt, tt)) $ pass1 ! (init ! 12 refl (tt, (tt, (record { fits = room₁.0 }, tt)))) $
+                pass1 ! (init ! 10 refl (tt, (tt, (record { fits = room₂.0 }, tt)))) $ pass0 ! $
+                -- [_8; …; _7; …; _6; …; _5; …; _4; …; _3; …; _2; …; _1; …; room for _0; …; the tokens and true; what the parameters own]
+                move ! (19 ∷ []) $ fsplit ! $ fsplit3 ! $ drop ! $ move ! (21 ∷ []) $ split ! $ move ! (2 ∷ 3 ∷ 0 ∷ []) $
                 taken_out S ! tt {h = h} b o (λ was.
-                -- [the cell; what it owns; the open borrow; obs; auth; the slices' tokens and true; what the slices own; _7 (7); …; _6 (9); …;
-                -- _5 (11); …; _4 (13); …; _3 (15); …; _2 (17); …; _1 (19); …; room for _0 (21); …]
-                assigns ! (of_opd ! (load ! (from ! (hop ! (look ! 19 refl) (stop !))) (look_raw ! 0 refl))) (from ! (stop !))
-                (init ! 11 refl ((S.lawful 𝓛).typed h _ was).0) $
-                assigns ! (addr ! (from ! (fld ! refl (hop ! (look_in ! 15 (sub ! 0 refl (whole !))) (stop !))))) (from ! (stop !))
-                (init ! 9 refl (tt, tt)) $
-                assigns ! (agg ! (and_then ! (load ! (from ! (stop !)) (look ! 9 refl))
-                (and_then ! (load ! (from ! (fld ! refl (stop !))) (look_in ! 15 (sub ! 1 refl (whole !)))) (no_more !)))) (from ! (stop !))
-                (init ! 7 refl (tt, (tt, (record { fits = room₂.0 }, tt)))) $
+                -- [the cell; what it owns; the open borrow; obs; auth; the slices' tokens and true; what the slices own; _8 (7); …; _7 (9); …; _6 (11); …;
+                -- _5 (13); …; _4 (15); …; _3 (17); …; _2 (19); …; _1 (21); …; room for _0 (23); …]
+                assigns ! (of_opd ! (load ! (from ! (hop ! (look ! 21 refl) (stop !))) (look_raw ! 0 refl))) (from ! (stop !))
+                (init ! 13 refl ((S.lawful 𝓛).typed h _ was).0) $
+                assigns ! (addr ! (from ! (fld ! refl (hop ! (look_in ! 17 (sub ! 0 refl (whole !))) (stop !))))) (from ! (stop !))
+                (init ! 11 refl (tt, tt)) $
+                assigns ! (agg ! (and_then ! (load ! (from ! (stop !)) (look ! 11 refl))
+                (and_then ! (load ! (from ! (fld ! refl (stop !))) (look_in ! 17 (sub ! 1 refl (whole !)))) (no_more !)))) (from ! (stop !))
+                (init ! 9 refl (tt, (tt, (record { fits = room₂.0 }, tt)))) $
                 -- the call: what the copy owns goes to it, and the slices with their tokens
                 move ! (1 ∷ 6 ∷ []) $ fjoin ! $ move ! (5 ∷ 0 ∷ []) $ use2 𝓛 (raw (StepC.pre to_step)) asks $
-                -- [what the call asks; the cell; the open borrow; obs; auth; _7 (5); …; _6 (7); …; _5 (9); …; _4 (11); …; _3 (13); …; _2 (15); …;
-                -- _1 (17); …; room for _0 (19); …]
+                -- [what the call asks; the cell; the open borrow; obs; auth; _8 (5); …; _7 (7); …; _6 (9); …; _5 (11); …; _4 (13); …; _3 (15); …; _2 (17); …;
+                -- _1 (19); …; room for _0 (21); …]
                 calls_at ! fm StepC known to_step
-                (and_then ! (load ! (from ! (stop !)) (look ! 9 refl)) (and_then ! (load ! (from ! (stop !)) (look ! 15 refl))
-                (and_then ! (load ! (from ! (stop !)) (look ! 5 refl)) (no_more !)))) (λ w.
+                (and_then ! (load ! (from ! (stop !)) (look ! 11 refl)) (and_then ! (load ! (from ! (stop !)) (look ! 17 refl))
+                (and_then ! (load ! (from ! (stop !)) (look ! 7 refl)) (no_more !)))) (λ w.
                 returned ! tt step_ended step_clauses to_step w (λ r ws. Told h xs ys r ws.1.1.0) (λ r ws. id⊢ 𝓤 _) (λ r ws e is.
                 -- [what the result owns; what is said of the last values; the slices' tokens and true; the cell; …]
-                move ! (1 ∷ []) $ fsplit ! $ drop ! $ fsplit ! $ drop ! $ fsplit ! $ fsplit ! $ move ! (1 ∷ []) $ feq_l ! (λ l.
-                -- [the last bytes; true; what the result owns; the slices' tokens and true; the cell; the open borrow; obs; auth; _7 (8); …;
-                -- _6 (10); …; _5 (12); …; _4 (14); …; _3 (16); …; _2 (18); …; _1 (20); …; room for _0 (22); …]
-                land ! (from ! (stop !)) (init ! 14 refl ((L.lawful 𝓛).typed r _ is).0) $
-                rewrite ! 14 (λ (u : Val). ‵ (fat full_share (mir_e E) l₄ 0 u)) (ap only (L.tells r (w ∷ []) is)) refl $
-                assigns ! (of_opd ! (load ! (from ! (fld ! refl (stop !))) (look_in ! 14 (sub ! 1 refl (whole !)))))
-                (from ! (hop ! (look ! 20 refl) (stop !))) (store_raw ! 4 refl
+                move ! (1 ∷ []) $ fsplit ! $ drop ! $ fsplit ! $ drop ! $ fsplit ! $ fsplit ! $ fsplit ! $ move ! (1 ∷ []) $ feq_l ! (λ l. fjoin ! $
+                -- [the last bytes with their borrow; true; what the result owns; the slices' tokens and true; the cell; the open borrow; obs; auth; _8 (8); …; _7 (10); …;
+                -- _6 (12); …; _5 (14); …; _4 (16); …; _3 (18); …; _2 (20); …; _1 (22); …; room for _0 (24); …]
+                land ! (from ! (stop !)) (init ! 16 refl ((L.lawful 𝓛).typed r _ is).0) $
+                rewrite ! 16 (λ (u : Val). ‵ (fat full_share (mir_e E) l₄ 0 u)) (ap only (L.tells r (w ∷ []) is)) refl $
+                assigns ! (of_opd ! (load ! (from ! (fld ! refl (stop !))) (look_in ! 16 (sub ! 1 refl (whole !))))) (from ! (stop !))
+                (init ! 8 refl ((S.lawful 𝓛).typed (E.left r) _ (L.is_left r _ is)).0) $
+                assigns ! (of_opd ! (load ! (from ! (stop !)) (look ! 8 refl))) (from ! (hop ! (look ! 22 refl) (stop !))) (store_raw ! 4 refl
                 ((S.lawful 𝓛).typed (E.left r) _ (L.is_left r _ is)).0) $
-                assigns ! (of_opd ! (load ! (from ! (fld ! refl (stop !))) (look_in ! 14 (sub ! 0 refl (whole !))))) (from ! (stop !))
-                (init ! 22 refl ((R.lawful 𝓛).typed (E.told r) _ (L.is_told r _ is)).0) $
+                assigns ! (of_opd ! (load ! (from ! (fld ! refl (stop !))) (look_in ! 16 (sub ! 0 refl (whole !))))) (from ! (stop !))
+                (init ! 24 refl ((R.lawful 𝓛).typed (E.told r) _ (L.is_told r _ is)).0) $
                 -- the borrow is closed at the new struct
                 move ! (4 ∷ 5 ∷ 6 ∷ 7 ∷ []) $ put_back S ! tt (E.left r) (L.is_left r _ is) b o $
-                -- [obs; the borrow; the token; the last bytes; true; what the result owns; the slices' tokens and true; _7 (7); …; _6 (9); …;
-                -- _5 (11); …; _4 (13); …; _3 (15); …; _2 (17); …; _1 (19); …; _0 (21); …]
-                returns ! (look ! 21 refl) $ forget ! 7 refl $ forget ! 9 refl $ forget ! 11 refl $ forget ! 13 refl $ forget ! 15 refl $
-                forget ! 17 refl $ forget ! 19 refl $ forget ! 21 refl $
-                move ! (21 ∷ 22 ∷ []) $ free1 ! $ move ! (19 ∷ 20 ∷ []) $ free1 ! $ move ! (17 ∷ 18 ∷ []) $ free1 ! $ move ! (15 ∷ 16 ∷ []) $ free1 ! $
-                move ! (13 ∷ 14 ∷ []) $ free1 ! $ move ! (11 ∷ 12 ∷ []) $ free1 ! $ move ! (9 ∷ 10 ∷ []) $ free1 ! $ move ! (7 ∷ 8 ∷ []) $ free1 ! $
-                free0 ! $ keep ! (2 ∷ 6 ∷ 0 ∷ 1 ∷ 3 ∷ []) $ by ! (exits r (L.is_told r _ is) ws.1.1.0 e l)))))))))))))
+                -- [obs; the borrow; the token; the last bytes with their borrow; true; what the result owns; the slices' tokens and true; _8 (7); …; _7 (9); …; _6 (11); …;
+                -- _5 (13); …; _4 (15); …; _3 (17); …; _2 (19); …; _1 (21); …; _0 (23); …]
+                returns ! (look ! 23 refl) $ forget ! 7 refl $ forget ! 9 refl $ forget ! 11 refl $ forget ! 13 refl $ forget ! 15 refl $ forget ! 17 refl $
+                forget ! 19 refl $ forget ! 21 refl $ forget ! 23 refl $
+                move ! (23 ∷ 24 ∷ []) $ free1 ! $ move ! (21 ∷ 22 ∷ []) $ free1 ! $ move ! (19 ∷ 20 ∷ []) $ free1 ! $ move ! (17 ∷ 18 ∷ []) $ free1 ! $
+                move ! (15 ∷ 16 ∷ []) $ free1 ! $ move ! (13 ∷ 14 ∷ []) $ free1 ! $ move ! (11 ∷ 12 ∷ []) $ free1 ! $ move ! (9 ∷ 10 ∷ []) $ free1 ! $ move ! (7 ∷ 8 ∷ []) $ free1 ! $
+                free0 ! $ keep ! (2 ∷ 6 ∷ 0 ∷ 1 ∷ 3 ∷ []) $ by ! (exits r (L.is_told r _ is) ws.1.1.0 e l))))))))))))))
 
-      walks : (step : Name) (C : Calls 𝓤 H) (Λ : Loops 𝓤 H) → FmC 𝓤 H 𝓛.laws C → Triple 𝓤 (C step) StepC
+      walks : (step : Callee) (C : Calls 𝓤 H) (Λ : Loops 𝓤 H) → FmC 𝓤 H 𝓛.laws C → Triple 𝓤 (C step) StepC
           → Walks 𝓛 ended stayed (WpFn 𝓤 H C Λ (function step)) c
       walks step C Λ fm known =
-          walked 𝓛 ended stayed c (WpFn 𝓤 H C Λ (function step)) (λ κs. (shr_vals, (shr_slice_vals, (shr_slice_vals, tt))))
+          walked 𝓛 ended stayed c (WpFn 𝓤 H C Λ (function step)) (λ κs. (mut_vals, (shr_slice_vals, (mut_slice_vals, tt))))
           (λ κs. (mut_Tells (named 0) κs.0 (row S), (shr_slice_Tells (named 1) κs.1.0 u8, (mut_slice_Tells (named 2) κs.1.1.0 u8, tt))))
           (λ κs qs bounds a g are. via 𝓤 _ (fst∗ 𝓤 _ ((c κs a).requires g))
           (walk κs.0 κs.1.0 κs.1.1.0 qs.0 qs.1.0 qs.1.1.0 a.0.ref_ptr.0 a.0.ref_ptr.1 a.0.ghost_name a.0.now
-          a.1.0.ref_ptr.0 a.1.0.ref_ptr.1 a.1.0.ghost_name a.1.0.now
+          a.1.0.ref_ptr.0 a.1.0.ref_ptr.1 a.1.0.now
           a.1.1.0.ref_ptr.0 a.1.1.0.ref_ptr.1 a.1.1.0.ghost_name a.1.1.0.now g step C Λ fm known are.1.0.0.1 are.1.1.0.0.1))
 
   goes : {M : Type 1} {𝓤 : Ura M} (𝓛 : Logic 𝓤) → AllGo 𝓛 3 ended.signature.params ended.kept stayed
@@ -249,7 +259,7 @@ module _ (S R : Plain) (E : Beside S R) (L : BesideLaws E) where
   pub stores_whole_filling : (of : S.type.Denot → List ℕ → List ℕ → E.type.Denot) (buffer : S.type.Denot → List ℕ → List ℕ → List ℕ)
       {M : Type 1} {𝓤 : Ura M} (𝓛 : Logic 𝓤) (𝓜 : Model 𝓤 𝓛.H) (𝓡 : Running 𝓤 𝓛.H 𝓜)
       (c : Clauses 𝓤 ended) → Holds of buffer 𝓛 c
-      → (γ : Env) (k step : Name) → Closed 𝓤 𝓛.H (tables 𝓤 𝓛.H 𝓜 𝓡 γ).C (tables 𝓤 𝓛.H 𝓜 𝓡 γ).Λ k (function step)
+      → (γ : Env) (k step : Callee) → Closed 𝓤 𝓛.H (tables 𝓤 𝓛.H 𝓜 𝓡 γ).C (tables 𝓤 𝓛.H 𝓜 𝓡 γ).Λ k (function step)
       → (r : Routine) → γ step ≡ r → Triple 𝓤 (𝓡.run r) (StepC of buffer 𝓛)
       → Triple 𝓤 ((tables 𝓤 𝓛.H 𝓜 𝓡 γ).C k) (triple_of 𝓛 ended.signature (closing 𝓛 ended c))
   stores_whole_filling of buffer 𝓛 𝓜 𝓡 c unanswered γ k step closed r p met =
