@@ -7,20 +7,20 @@ use Rattle.printing.specs.Printed.{record_of, placed, placed_length}
 use Rattle.sheet.proofs.answer_sheet.Statement.{statement}
 use Rattle.sheet.proofs.answer_sheet.Tie as tie
 
-read-sheet-requires : tie.Need-read-sheet-requires
+read-sheet-requires : tie.Need-read_sheet-e-requires
 read-sheet-requires c κs = search rules
 
-write-report-requires : tie.Need-write-report-requires
+write-report-requires : tie.Need-write_report-requires
 write-report-requires c κs = search rules
 
-same_length : tie.Need-same-length
+same_length : tie.Need-shape_of-out
 same_length c = search rules
 
 returns : tie.Need-returns
 returns c =
-    let w = c.before.before.write-report.ensures in
-    let r = c.before.before.before.before.read-sheet.ensures in
-    let out = c.before.before.before.before.before.before.before.args.out.now in (
+    let w = c.write_report.ensures in
+    let r = c.read_sheet-e.ensures in
+    let out = c.args.out.now in (
       w.0 ∙ ap (λ (e : Entered). placed_length (record_of e.report) out) r,
       w.1.0 ∙ ap (λ (e : Entered). placed (record_of e.report) out) r,
     )

@@ -10,16 +10,16 @@ use borrow.Author.Rules.{rules}
 use Rattle.sheet.proofs.brief_of.Statement.{statement}
 use Rattle.sheet.proofs.brief_of.Tie as tie
 
-read-records-requires : tie.Need-read-records-requires
+read-records-requires : tie.Need-read_records-read-requires
 read-records-requires c κs = search rules
 
-judge-requires : tie.Need-judge-requires
-judge-requires c κs = subst (λ (e : Entries). e.count ≤ slots) (sym c.read-records.ensures) (entries_few _)
+judge-requires : tie.Need-judge-outcome-requires
+judge-requires c κs = subst (λ (e : Entries). e.count ≤ slots) (sym c.read_records-read.ensures) (entries_few _)
 
 returns : tie.Need-returns
 returns c =
-    let r = c.before.before.read-records in
-    let judged = c.before.judge.ensures ∙ sheet_judged _ r.result r.ensures in
+    let r = c.read_records-read in
+    let judged = c.judge-outcome.ensures ∙ sheet_judged _ r.result r.ensures in
     (ap (λ (e : Entries). e.form) r.ensures, ap (λ (e : Entries). e.opening) r.ensures, ap (λ (e : Entered). e.report) judged)
 
 pub brief_of_spec : {M : Type 1} → statement M

@@ -9,15 +9,15 @@ use borrow.Author.Rules.{rules}
 use Rattle.sheet.proofs.read_sheet.Statement.{statement}
 use Rattle.sheet.proofs.read_sheet.Tie as tie
 
-read-records-requires : tie.Need-read-records-requires
+read-records-requires : tie.Need-read_records-e-requires
 read-records-requires c κs = search rules
 
 judge-requires : tie.Need-judge-requires
-judge-requires c κs = subst (λ (e : Entries). e.count ≤ slots) (sym c.read-records.ensures) (entries_few _)
+judge-requires c κs = subst (λ (e : Entries). e.count ≤ slots) (sym c.read_records-e.ensures) (entries_few _)
 
 returns : tie.Need-returns
 returns c =
-    let r = c.before.read-records in
+    let r = c.read_records-e in
     c.judge.ensures ∙ sheet_judged _ r.result r.ensures
 
 pub read_sheet_spec : {M : Type 1} → statement M
