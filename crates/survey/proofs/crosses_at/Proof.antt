@@ -11,19 +11,19 @@ use Rattle.surveying.specs.Survey.{measured_at}
 use Rattle.survey.proofs.crosses_at.Statement.{statement}
 use Rattle.survey.proofs.crosses_at.Tie as tie
 
-mul-opposed : tie.Need-overflow-mul-opposed
+mul-opposed : tie.Need-offset_bounds-values-i
 mul-opposed c = search rules
 
-shared-slice-copy-out-opposed : tie.Need-shared-slice-copy-out-opposed
+shared-slice-copy-out-opposed : tie.Need-bounds-values-i
 shared-slice-copy-out-opposed c = search rules
 
-add-opposed : tie.Need-overflow-add-opposed
+add-opposed : tie.Need-overflow_add-i
 add-opposed c = search rules
 
-mul-opposed-2 : tie.Need-overflow-mul-opposed-2
+mul-opposed-2 : tie.Need-offset_bounds-values-i-2
 mul-opposed-2 c = search rules
 
-shared-slice-copy-out-opposed-2 : tie.Need-shared-slice-copy-out-opposed-2
+shared-slice-copy-out-opposed-2 : tie.Need-bounds-values-i-2
 shared-slice-copy-out-opposed-2 c = search rules
 
 opposed-requires : tie.Need-opposed-requires

@@ -17,62 +17,62 @@ use Rattle.surveying.specs.Survey.{measured_at, large_at}
 use Rattle.survey.proofs.first_large.Statement.{statement}
 use Rattle.survey.proofs.first_large.Tie as tie
 
-abbrev invariant-loop : tie.invariant-loop
+abbrev invariant-loop : tie.invariant-loop-i
 invariant-loop values i₀ i = (i ≤ length values) × ((m : ℕ) → m < i → too_large (measured_at values m) ≡ false)
 
-abbrev decreases-loop : tie.decreases-loop
+abbrev decreases-loop : tie.decreases-loop-i
 decreases-loop values i₀ i = length values - i
 
-abbrev at-loop : tie.After-too-large invariant-loop decreases-loop → tie.At-loop invariant-loop decreases-loop
+abbrev at-loop : tie.After-too_large invariant-loop decreases-loop → tie.At-loop-i invariant-loop decreases-loop
 at-loop c = c.before.before.before
 
-abbrev value_of : tie.After-too-large invariant-loop decreases-loop → ℤ
-value_of c = measured_at (at-loop c).before.args.values.now (at-loop c).loop.i
+abbrev value_of : tie.After-too_large invariant-loop decreases-loop → ℤ
+value_of c = measured_at (at-loop c).args.values.now (at-loop c).loop-i.i
 
-tested : (c : tie.After-too-large invariant-loop decreases-loop) → c.too_large.result ≡ too_large (value_of c)
+tested : (c : tie.After-too_large invariant-loop decreases-loop) → c.too_large.result ≡ too_large (value_of c)
 tested c = let f : SFits w32 (value_of c) = search rules in c.too_large.ensures ∙ ap too_large (read f)
 
 -- neither is the one just tested
-passed : (c : tie.Else1 invariant-loop decreases-loop) (m : ℕ) → Dec (suc m ≤ (at-loop c.before).loop.i) → m < (at-loop c.before).loop.i + 1
-    → too_large (measured_at (at-loop c.before).before.args.values.now m) ≡ false
-passed c m (yes g) h = (at-loop c.before).loop.inv.1 m g
+passed : (c : tie.Else-too_large invariant-loop decreases-loop) (m : ℕ) → Dec (suc m ≤ (at-loop c.before).loop-i.i) → m < (at-loop c.before).loop-i.i + 1
+    → too_large (measured_at (at-loop c.before).args.values.now m) ≡ false
+passed c m (yes g) h = (at-loop c.before).loop-i.invariant.1 m g
 passed c m (no g) h =
-    let e : m ≡ (at-loop c.before).loop.i = omega arith in
-    rw e (sym (tested c.before) ∙ c.if1.false)
+    let e : m ≡ (at-loop c.before).loop-i.i = omega arith in
+    rw e (sym (tested c.before) ∙ c.if-too_large.false)
 
-loop-holds : tie.Need-loop-init invariant-loop decreases-loop
+loop-holds : tie.Need-loop-i-init invariant-loop decreases-loop
 loop-holds c = (omega arith, λ m h. absurd (omega arith))
 
-mul-too-large : tie.Need-overflow-mul-too-large invariant-loop decreases-loop
+mul-too-large : tie.Need-offset_bounds-values-i invariant-loop decreases-loop
 mul-too-large c = search rules
 
-shared-slice-copy-out-too-large : tie.Need-shared-slice-copy-out-too-large invariant-loop decreases-loop
+shared-slice-copy-out-too-large : tie.Need-bounds-values-i invariant-loop decreases-loop
 shared-slice-copy-out-too-large c = search rules
 
-too-large-requires : tie.Need-too-large-requires invariant-loop decreases-loop
+too-large-requires : tie.Need-too_large-requires invariant-loop decreases-loop
 too-large-requires c κs = search rules
 
-returns : tie.Need-returns invariant-loop decreases-loop
+returns : tie.Need-returns-then-too_large invariant-loop decreases-loop
 unfolding large_at
 returns c =
     let m = c.before in
-    let l = (at-loop m).loop in
-    first_is _ _ l.i l.inv.0 l.inv.1 (λ h. sym (tested m) ∙ c.if1.true)
+    let l = (at-loop m).loop-i in
+    first_is _ _ l.i l.invariant.0 l.invariant.1 (λ h. sym (tested m) ∙ c.if-too_large.true)
 
-add-i : tie.Need-overflow-add-i invariant-loop decreases-loop
+add-i : tie.Need-overflow_add-i invariant-loop decreases-loop
 add-i c = search rules
 
-loop-less : tie.Need-loop-smaller invariant-loop decreases-loop
+loop-less : tie.Need-loop-i-smaller invariant-loop decreases-loop
 loop-less c = search rules
 
-loop-again : tie.Need-loop-preserved invariant-loop decreases-loop
-loop-again c = (omega (arith, c.before.before.before.loop-test.true), λ m h. passed c m (dec_le (suc m) (at-loop c.before).loop.i) h)
+loop-again : tie.Need-loop-i-preserved invariant-loop decreases-loop
+loop-again c = (omega (arith, c.loop-i-test.true), λ m h. passed c m (dec_le (suc m) (at-loop c.before).loop-i.i) h)
 
-returns-2 : tie.Need-returns-2 invariant-loop decreases-loop
+returns-2 : tie.Need-returns invariant-loop decreases-loop
 unfolding large_at
 returns-2 c =
-    let l = c.before.loop in
-    first_is _ _ l.i l.invariant.0 l.invariant.1 (λ h. absurd (omega (arith, c.loop-test.false)))
+    let l = c.loop-i in
+    first_is _ _ l.i l.invariant.0 l.invariant.1 (λ h. absurd (omega (arith, c.loop-i-test.false)))
 
 pub first_large_spec : {M : Type 1} → statement M
 first_large_spec =
