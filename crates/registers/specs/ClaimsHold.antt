@@ -175,7 +175,7 @@ journal_grows o journal (a ∷ offers) h =
 values_offered : (s : Search) (vs : List ℤ) → values (map offered (calls_for s vs)) ≡ vs
 unfolding calls_for
 values_offered s [] = refl
-values_offered s (v ∷ vs) = ap (λ (ws : List ℤ). v ∷ ws) (values_offered _ vs)
+values_offered s (v ∷ vs) = ap (λ (ws : List ℤ). v ∷ ws) (values_offered (enter_of s (pos (called_for s)) v).search vs)
 
 module _ (o : Opening) (accepted : Accepted o) (requests : List (List ℕ)) where
   abbrev calls : List Call

@@ -230,10 +230,10 @@ module _ (s : Search) (request : List ℕ) where
     unfolding exchange_of fault_of write_fault entry_of
     offer_made =
         let is_six : function_of request ≡ write_single = eqb-true _ _ offer.writes in
-        let long : length request ≡ request_length = eqb-true _ _ offer.long-enough in
+        let long : length request ≡ request_length = eqb-true _ _ offer.long_enough in
         let some : eqb (length request) 0 ≡ false = ne_eqb (length request) 0 (λ e. omega (arith, long)) in
         let other : eqb (function_of request) read_holding ≡ false = rw is_six in
-        simp (some, offer.fine-search, other, offer.writes, offer.long-enough, offer.here) (go (is_refusal entry.report))
+        simp (some, offer.fine_search, other, offer.writes, offer.long_enough, offer.here) (go (is_refusal entry.report))
       where
         go : (b : Bool)
             → cond (eqb (cond b illegal_value 0) 0) (record { reply = request; search = entry.search }) (excepted s request (cond b illegal_value 0))
