@@ -6,19 +6,19 @@ use borrow.Author.Rules.{rules}
 use Rattle.modbus.proofs.echo.Statement.{statement}
 use Rattle.modbus.proofs.echo.Tie as tie
 
-shared-slice-read-a : tie.Need-shared-slice-read-a
+shared-slice-read-a : tie.Need-bounds-request-0
 shared-slice-read-a c = search rules
 
-shared-slice-read-b : tie.Need-shared-slice-read-b
+shared-slice-read-b : tie.Need-bounds-request-1
 shared-slice-read-b c = search rules
 
-shared-slice-read-c : tie.Need-shared-slice-read-c
+shared-slice-read-c : tie.Need-bounds-request-2
 shared-slice-read-c c = search rules
 
-shared-slice-read-d : tie.Need-shared-slice-read-d
+shared-slice-read-d : tie.Need-bounds-request-3
 shared-slice-read-d c = search rules
 
-shared-slice-read-e : tie.Need-shared-slice-read-e
+shared-slice-read-e : tie.Need-bounds-request-4
 shared-slice-read-e c = search rules
 
 returns : tie.Need-returns

@@ -8,40 +8,40 @@ use borrow.Author.Rules.{rules}
 use Rattle.readout.proofs.read_words.Statement.{statement}
 use Rattle.readout.proofs.read_words.Tie as tie
 
-word-at-requires : tie.Need-word-at-requires
+word-at-requires : tie.Need-word_at-address-requires
 word-at-requires c κs = search rules
 
-cast-address : tie.Need-overflow-cast-address
+cast-address : tie.Need-overflow_cast-address
 cast-address c = search rules
 
-word-at-requires-2 : tie.Need-word-at-requires-2
+word-at-requires-2 : tie.Need-word_at-quantity-requires
 word-at-requires-2 c κs = search rules
 
-cast-quantity : tie.Need-overflow-cast-quantity
+cast-quantity : tie.Need-overflow_cast-quantity
 cast-quantity c = search rules
 
-add-end : tie.Need-overflow-add-end
+add-end : tie.Need-overflow_add-end
 add-end c = search rules
 
-mul-count : tie.Need-overflow-mul-count
+mul-count : tie.Need-overflow_mul-count
 mul-count c = search rules
 
-cast-count : tie.Need-overflow-cast-count
+cast-count : tie.Need-overflow_cast-count
 cast-count c = search rules
 
-mul-put-words : tie.Need-overflow-mul-put-words
+mul-put-words : tie.Need-offset_bounds-words-address
 mul-put-words c = search rules
 
-sub-put-words : tie.Need-overflow-sub-put-words
+sub-put-words : tie.Need-slice_bounds-put_words-count
 sub-put-words c = search rules
 
-part-put-words-start : tie.Need-slice-bounds-put-words-start
+part-put-words-start : tie.Need-slice_bounds-put_words-start
 part-put-words-start c = search rules
 
-part-put-words-end : tie.Need-slice-bounds-put-words-end
+part-put-words-end : tie.Need-slice_bounds-put_words-end
 part-put-words-end c = search rules
 
-put-words-requires : tie.Need-put-words-requires
+put-words-requires : tie.Need-put_words-requires
 put-words-requires c κs = search rules
 
 returns : tie.Need-returns
@@ -49,8 +49,8 @@ returns c =
     let s = c.before.before.before.before.before.before in
     let q = c.before.before.before.word-at2.ensures.0 in
     let a = c.before.before.before.before.word_at.ensures.0 in
-    let long : length s.args.t1 ≡ register_count = search rules in
-    rw c.put-words.ensures (read_holds s.args.t1 s.args.request.now _ _ long s.requires a q)
+    let long : length s.args.words ≡ register_count = search rules in
+    rw c.put_words.ensures (read_holds s.args.words s.args.request.now _ _ long s.requires a q)
 
 pub read_words_spec : {M : Type 1} → statement M
 read_words_spec =

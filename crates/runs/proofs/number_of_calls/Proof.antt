@@ -16,7 +16,7 @@ lesser-requires-3 : tie.Need-lesser-requires-3
 lesser-requires-3 c κs = search rules
 
 returns : tie.Need-returns
-returns c = c.lesser3.ensures ∙ ap₂ min c.before.before.lesser.ensures c.before.lesser2.ensures
+returns c = c.lesser-3.ensures ∙ ap₂ min c.lesser.ensures c.lesser-2.ensures
 
 pub number_of_calls_spec : {M : Type 1} → statement M
 number_of_calls_spec = tie.close (tie.spec lesser-requires lesser-requires-2 lesser-requires-3 returns)

@@ -6,15 +6,15 @@ use borrow.Author.Rules.{rules}
 use Rattle.turns.proofs.goes_on.Statement.{statement}
 use Rattle.turns.proofs.goes_on.Tie as tie
 
-report-requires : tie.Need-report-requires
+report-requires : tie.Need-report-report-requires
 report-requires c κs = search rules
 
-is-next-requires : tie.Need-is-next-requires
+is-next-requires : tie.Need-is_next-requires
 is-next-requires c κs = search rules
 
 returns : tie.Need-returns
 unfolding unfinished
-returns c = c.is-next.ensures ∙ ap is_next c.before.report.ensures
+returns c = c.is_next.ensures ∙ ap is_next c.report-report.ensures
 
 pub goes_on_spec : {M : Type 1} → statement M
 goes_on_spec = tie.close (tie.spec report-requires is-next-requires returns)

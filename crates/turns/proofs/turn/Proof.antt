@@ -10,63 +10,63 @@ use borrow.Author.Rules.{rules}
 use Rattle.turns.proofs.turn.Statement.{statement}
 use Rattle.turns.proofs.turn.Tie as tie
 
-abbrev invariant-loop : tie.invariant-loop
+abbrev invariant-loop : tie.invariant-loop-left
 invariant-loop d at₀ left₀ at left = Asking d at left
 
-abbrev decreases-loop : tie.decreases-loop
+abbrev decreases-loop : tie.decreases-loop-left
 decreases-loop d at₀ left₀ at left = left
 
-start-after-requires : tie.Need-start-after-requires invariant-loop decreases-loop
+start-after-requires : tie.Need-start_after-at-requires invariant-loop decreases-loop
 start-after-requires c κs = search rules
 
-loop-holds : tie.Need-loop-init invariant-loop decreases-loop
-loop-holds c = ask_all _ _ c.start-after.ensures
+loop-holds : tie.Need-loop-left-init invariant-loop decreases-loop
+loop-holds c = ask_all _ _ c.start_after-at.ensures
 
-cast-search : tie.Need-overflow-cast-search invariant-loop decreases-loop
+cast-search : tie.Need-overflow_cast-search invariant-loop decreases-loop
 cast-search c = search rules
 
-mul-search : tie.Need-overflow-mul-search invariant-loop decreases-loop
+mul-search : tie.Need-offset_bounds-d-dryer invariant-loop decreases-loop
 mul-search c = search rules
 
-element-copy-out-search : tie.Need-element-copy-out-search invariant-loop decreases-loop
+element-copy-out-search : tie.Need-bounds-d-dryer invariant-loop decreases-loop
 element-copy-out-search c = search rules
 
-goes-on-requires : tie.Need-goes-on-requires invariant-loop decreases-loop
+goes-on-requires : tie.Need-goes_on-requires invariant-loop decreases-loop
 goes-on-requires c κs = search rules
 
 -- what is asked is whether the search at the dryer goes on
-asked : (w : tie.After-goes-on invariant-loop decreases-loop)
+asked : (w : tie.After-goes_on invariant-loop decreases-loop)
     → let l = w.before.before.before in
-    w.goes_on.result ≡ unfinished (search_at l.before.before.args.t1 (l.loop.at % dryers))
+    w.goes_on.result ≡ unfinished (search_at l.args.d (l.loop-left.at % dryers))
 asked w =
     let l = w.before.before.before in
-    let d = l.before.before.args.t1 in
+    let d = l.args.d in
     let six : length d.searches ≡ dryers = search (length_mapped, rules) in
-    w.goes_on.ensures ∙ ap unfinished (inside d.searches (l.loop.at % dryers) _ _ (omega (arith, six)))
+    w.goes_on.ensures ∙ ap unfinished (inside d.searches (l.loop-left.at % dryers) _ _ (omega (arith, six)))
 
-returns : tie.Need-returns invariant-loop decreases-loop
+returns : tie.Need-returns-then-goes_on invariant-loop decreases-loop
 returns c =
     let w = c.before in
     let t = w.before.before in
-    sym (ask_here _ _ _ t.before.loop.invariant t.loop-test.true (sym (asked w) ∙ c.if1.true))
+    sym (ask_here _ _ _ t.loop-left.invariant t.loop-left-test.true (sym (asked w) ∙ c.if-goes_on.true))
 
-add_at : tie.Need-overflow-add-at invariant-loop decreases-loop
+add_at : tie.Need-overflow_add-at invariant-loop decreases-loop
 add_at c = search rules
 
-sub-left : tie.Need-overflow-sub-left invariant-loop decreases-loop
+sub-left : tie.Need-overflow_sub-left invariant-loop decreases-loop
 sub-left c = search rules
 
-loop-less : tie.Need-loop-smaller invariant-loop decreases-loop
+loop-less : tie.Need-loop-left-smaller invariant-loop decreases-loop
 loop-less c = search rules
 
-loop-again : tie.Need-loop-preserved invariant-loop decreases-loop
+loop-again : tie.Need-loop-left-preserved invariant-loop decreases-loop
 loop-again c =
     let w = c.before in
     let t = w.before.before in
-    ask_next _ _ _ t.before.loop.invariant t.loop-test.true (sym (asked w) ∙ c.if1.false)
+    ask_next _ _ _ t.loop-left.invariant t.loop-left-test.true (sym (asked w) ∙ c.if-goes_on.false)
 
-returns-2 : tie.Need-returns-2 invariant-loop decreases-loop
-returns-2 c = sym (ask_none _ _ _ c.before.loop.invariant c.loop-test.false)
+returns-2 : tie.Need-returns invariant-loop decreases-loop
+returns-2 c = sym (ask_none _ _ _ c.loop-left.invariant c.loop-left-test.false)
 
 pub turn_spec : {M : Type 1} → statement M
 turn_spec =
