@@ -17,21 +17,21 @@ use Rattle.dispatch.proofs.enter.Tie as tie
 refused-requires : tie.Need-refused-requires
 refused-requires c κs = search rules
 
-returns : tie.Need-returns
+returns : tie.Need-returns-then-dryer-ge-DRYERS
 returns c =
-    let s = c.before.before.args in
-    c.refused.ensures ∙ sym (answer_nowhere s.d s.dryer s.answer c.before.if1.true)
+    let s = c.args in
+    c.refused.ensures ∙ sym (answer_nowhere s.d s.dryer s.answer c.if-dryer-ge-DRYERS.true)
 
-turn-requires : tie.Need-turn-requires
+turn-requires : tie.Need-turn-holder-requires
 turn-requires c κs = search rules
 
-is-dryer-requires : tie.Need-is-dryer-requires
+is-dryer-requires : tie.Need-is_dryer-requires
 is-dryer-requires c κs = search rules
 
-search-at-requires : tie.Need-search-at-requires
+search-at-requires : tie.Need-search_at-search-requires
 search-at-requires c κs = search rules
 
-enter-requires : tie.Need-enter-requires
+enter-requires : tie.Need-enter-e-requires
 enter-requires c κs = search rules
 
 served-requires : tie.Need-served-requires
@@ -41,41 +41,41 @@ settled-requires : tie.Need-settled-requires
 settled-requires c κs = search rules
 
 -- the search at the dryer, and what it answers
-abbrev found : tie.After-enter → tie.After-search-at
+abbrev found : tie.After-enter-e → tie.After-search_at-search
 found e = e.before.before.before
 
-entered : (e : tie.After-enter)
-    → let s = (found e).before.before.before.before.before.args in
-    e.enter.result ≡ enter_of (search_at s.d s.dryer) s.answer.point s.answer.value
+entered : (e : tie.After-enter-e)
+    → let s = (found e).args in
+    e.enter-e.result ≡ enter_of (search_at s.d s.dryer) s.answer.point s.answer.value
 entered e =
-    let s = (found e).before.before.before.before.before.args in
+    let s = (found e).args in
     let p : SFits w32 s.answer.point = search rules in
     let v : SFits w32 s.answer.value = search rules in
-    (rw (read p, read v) at e.enter.ensures) ∙ ap (λ (h : Search). enter_of h s.answer.point s.answer.value) (found e).search-at.ensures
+    (rw (read p, read v) at e.enter-e.ensures) ∙ ap (λ (h : Search). enter_of h s.answer.point s.answer.value) (found e).search_at-search.ensures
 
-returns-2 : tie.Need-returns-2
+returns-2 : tie.Need-returns-then-is_dryer
 returns-2 c =
     let w = c.before in
     let e = w.before.before in
     let at = found e in
     let t = at.before.before in
-    let s = t.before.before.before.args in
+    let s = t.args in
     c.settled.ensures
-    ∙ ap (settled_by s.d e.enter.result) w.served.ensures
+    ∙ ap (settled_by s.d e.enter-e.result) w.served.ensures
     ∙ ap (λ (x : Entered). settled_by s.d x (served_at s.d s.dryer x.search)) (entered e)
-    ∙ sym (answer_due s.d s.dryer s.answer t.before.before.if1.left
-    (sym (ap (λ (u : Turn). is_dryer u s.dryer) t.before.turn.ensures) ∙ sym t.is-dryer.ensures ∙ at.before.if2.taken))
+    ∙ sym (answer_due s.d s.dryer s.answer t.if-dryer-ge-DRYERS.false
+    (sym (ap (λ (u : Turn). is_dryer u s.dryer) t.turn-holder.ensures) ∙ sym t.is_dryer.ensures ∙ at.if-is_dryer.taken))
 
 refused-requires-2 : tie.Need-refused-requires-2
 refused-requires-2 c κs = search rules
 
-returns-3 : tie.Need-returns-3
+returns-3 : tie.Need-returns
 returns-3 c =
     let t = c.before.before in
-    let s = t.before.before.before.args in
-    c.refused2.ensures
-    ∙ sym (answer_early s.d s.dryer s.answer t.before.before.if1.false
-    (sym (ap (λ (u : Turn). is_dryer u s.dryer) t.before.turn.ensures) ∙ sym t.is-dryer.ensures ∙ c.before.if2.false))
+    let s = t.args in
+    c.refused-2.ensures
+    ∙ sym (answer_early s.d s.dryer s.answer t.if-dryer-ge-DRYERS.false
+    (sym (ap (λ (u : Turn). is_dryer u s.dryer) t.turn-holder.ensures) ∙ sym t.is_dryer.ensures ∙ c.if-is_dryer.false))
 
 pub enter_spec : {M : Type 1} → statement M
 enter_spec =

@@ -13,11 +13,11 @@ use Rattle.dispatch.proofs.fresh.Tie as tie
 abbrev all_of : Search → Dispatcher
 all_of s = record { searches = replicate dryers s; last = dryers; counts = replicate dryers 0 }
 
-blank-requires : tie.Need-blank-requires
+blank-requires : tie.Need-blank-none-requires
 blank-requires c κs = search rules
 
 returns : tie.Need-returns
-returns c = ap all_of c.blank.ensures
+returns c = ap all_of c.blank-none.ensures
 
 pub fresh_spec : {M : Type 1} → statement M
 fresh_spec = tie.close (tie.spec blank-requires returns)

@@ -5,10 +5,10 @@ use borrow.Author.Rules.{rules}
 use Rattle.dispatch.proofs.with_search.Statement.{statement}
 use Rattle.dispatch.proofs.with_search.Tie as tie
 
-mul-search : tie.Need-overflow-mul-search
+mul-search : tie.Need-offset_bounds-next-at
 mul-search c = search rules
 
-element-set-from-search : tie.Need-element-set-from-search
+element-set-from-search : tie.Need-bounds-next-at
 element-set-from-search c = search rules
 
 returns : tie.Need-returns

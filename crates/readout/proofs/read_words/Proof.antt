@@ -46,9 +46,9 @@ put-words-requires c κs = search rules
 
 returns : tie.Need-returns
 returns c =
-    let s = c.before.before.before.before.before.before in
-    let q = c.before.before.before.word-at2.ensures.0 in
-    let a = c.before.before.before.before.word_at.ensures.0 in
+    let s = c in
+    let q = c.word_at-quantity.ensures.0 in
+    let a = c.word_at-address.ensures.0 in
     let long : length s.args.words ≡ register_count = search rules in
     rw c.put_words.ensures (read_holds s.args.words s.args.request.now _ _ long s.requires a q)
 

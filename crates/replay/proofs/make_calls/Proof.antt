@@ -18,7 +18,7 @@ decreases-loop kinds points values rows₀ n begun i₀ rows search i = n - i
 
 -- the number of calls
 number : (c : tie.At-loop-i invariant-loop decreases-loop)
-    → let x = c.before.before.before.before.before.args in
+    → let x = c.args in
     c.number_of_calls-n.result ≡ shortest x.kinds.now x.points.now x.values.now x.rows.now
 number c = c.number_of_calls-n.ensures
 
