@@ -64,7 +64,7 @@ returns-2 c =
     ∙ ap (settled_by s.d e.enter-e.result) w.served.ensures
     ∙ ap (λ (x : Entered). settled_by s.d x (served_at s.d s.dryer x.search)) (entered e)
     ∙ sym (answer_due s.d s.dryer s.answer t.if-dryer-ge-DRYERS.false
-    (sym (ap (λ (u : Turn). is_dryer u s.dryer) t.turn-holder.ensures) ∙ sym t.is_dryer.ensures ∙ at.if-is_dryer.taken))
+    (sym (ap (λ (u : Turn). is_dryer u s.dryer) t.turn-holder.ensures) ∙ sym t.is_dryer.ensures ∙ at.if-is_dryer.true))
 
 refused-requires-2 : tie.Need-refused-requires-2
 refused-requires-2 c κs = search rules

@@ -4,19 +4,19 @@ use borrow.Author.Rules.{rules}
 use Rattle.dispatch_calls.proofs.answer_at.Statement.{statement}
 use Rattle.dispatch_calls.proofs.answer_at.Tie as tie
 
-mul-point : tie.Need-overflow-mul-point
+mul-point : tie.Need-offset_bounds-numbers-at
 mul-point c = search rules
 
-shared-slice-copy-out-point : tie.Need-shared-slice-copy-out-point
+shared-slice-copy-out-point : tie.Need-bounds-numbers-at
 shared-slice-copy-out-point c = search rules
 
-add-value : tie.Need-overflow-add-value
+add-value : tie.Need-overflow_add-value
 add-value c = search rules
 
-mul-value : tie.Need-overflow-mul-value
+mul-value : tie.Need-offset_bounds-numbers-at-2
 mul-value c = search rules
 
-shared-slice-copy-out-value : tie.Need-shared-slice-copy-out-value
+shared-slice-copy-out-value : tie.Need-bounds-numbers-at-2
 shared-slice-copy-out-value c = search rules
 
 returns : tie.Need-returns

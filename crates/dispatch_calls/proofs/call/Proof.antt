@@ -13,15 +13,15 @@ open-requires c κs = search rules
 enter-requires : tie.Need-enter-requires
 enter-requires c κs = search rules
 
-returns : tie.Need-returns
+returns : tie.Need-returns-then-kind-eq0
 returns c =
-    let x = c.before.before.args in
-    c.open.ensures ∙ sym (ap (call_of x.d) (call_opening x.kind x.dryer x.o x.a c.before.if1.true))
+    let x = c.args in
+    c.open.ensures ∙ sym (ap (call_of x.d) (call_opening x.kind x.dryer x.o x.a c.if-kind-eq0.true))
 
-returns-2 : tie.Need-returns-2
+returns-2 : tie.Need-returns-else-kind-eq0
 returns-2 c =
-    let x = c.before.before.args in
-    c.enter.ensures ∙ sym (ap (call_of x.d) (call_answer x.kind x.dryer x.o x.a c.before.if1.false))
+    let x = c.args in
+    c.enter.ensures ∙ sym (ap (call_of x.d) (call_answer x.kind x.dryer x.o x.a c.if-kind-eq0.false))
 
 pub call_spec : {M : Type 1} → statement M
 call_spec = tie.close (tie.spec open-requires enter-requires returns returns-2)

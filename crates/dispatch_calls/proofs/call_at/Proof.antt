@@ -15,53 +15,53 @@ use borrow.Author.Rules.{rules}
 use Rattle.dispatch_calls.proofs.call_at.Statement.{statement}
 use Rattle.dispatch_calls.proofs.call_at.Tie as tie
 
-abbrev opened : tie.After-call → tie.After-opening-at
+abbrev opened : tie.After-call-told → tie.After-opening_at-o
 opened c = c.before.before.before.before
 
-abbrev start : tie.After-call → tie.Start
+abbrev start : tie.After-call-told → tie.Start
 start c = (opened c).before.before.before.before
 
 -- the call has the kind, the dryer and the numbers at the place
-made : (c : tie.After-call)
+made : (c : tie.After-call-told)
     → let x = (start c).args in
-    c.call.result ≡ call_of x.d (call_at x.kinds.now x.dryers.now x.numbers.now x.i)
+    c.call-told.result ≡ call_of x.d (call_at x.kinds.now x.dryers.now x.numbers.now x.i)
 made c =
     let x = (start c).args in
-    c.call.ensures
+    c.call-told.ensures
     ∙ ap₂ (λ (o : Opening) (a : Answer). call_of x.d (call_with (get_or x.kinds.now x.i 0) (get_or x.dryers.now x.i 0) o a))
-    (opened c).opening-at.ensures c.before.answer_at.ensures
+    (opened c).opening_at-o.ensures c.answer_at.ensures
 
-mul_at : tie.Need-overflow-mul-at
+mul_at : tie.Need-overflow_mul-at
 mul_at c = search rules
 
-opening-at-requires : tie.Need-opening-at-requires
+opening-at-requires : tie.Need-opening_at-o-requires
 opening-at-requires c κs = search rules
 
-shared-slice-read-call : tie.Need-shared-slice-read-call
+shared-slice-read-call : tie.Need-bounds-kinds-i
 shared-slice-read-call c = search rules
 
-mul-call : tie.Need-overflow-mul-call
+mul-call : tie.Need-offset_bounds-dryers-i
 mul-call c = search rules
 
-shared-slice-read-call-2 : tie.Need-shared-slice-read-call-2
+shared-slice-read-call-2 : tie.Need-bounds-dryers-i
 shared-slice-read-call-2 c = search rules
 
-answer-at-requires : tie.Need-answer-at-requires
+answer-at-requires : tie.Need-answer_at-requires
 answer-at-requires c κs = search rules
 
-call-requires : tie.Need-call-requires
+call-requires : tie.Need-call-told-requires
 call-requires c κs = search rules
 
-mul-put-row : tie.Need-overflow-mul-put-row
+mul-put-row : tie.Need-overflow_mul-i
 mul-put-row c = search rules
 
-row-of-requires : tie.Need-row-of-requires
+row-of-requires : tie.Need-row_of-requires
 row-of-requires c κs = search rules
 
-put-row-requires : tie.Need-put-row-requires
+put-row-requires : tie.Need-put_row-requires
 put-row-requires c κs = search rules
 
-same_length : tie.Need-same-length
+same_length : tie.Need-shape_of-rows
 same_length c = search rules
 
 returns : tie.Need-returns
@@ -69,10 +69,10 @@ returns c =
     let put = c.before.before.before in
     let called = put.before.before.before in
     let x = (start called).args in
-    let row = put.before.row-of.ensures ∙ ap (λ (r : Dispatched). row_of r.report) (made called) in
+    let row = put.row_of.ensures ∙ ap (λ (r : Dispatched). row_of r.report) (made called) in
     record {
       left = ap (λ (r : Dispatched). r.dispatcher) (made called);
-      written = put.put-row.ensures ∙ ap (λ (w : Row). sets x.rows.now (numbers_each * x.i) (row_numbers w)) row;
+      written = put.put_row.ensures ∙ ap (λ (w : Row). sets x.rows.now (numbers_each * x.i) (row_numbers w)) row;
     }
 
 pub call_at_spec : {M : Type 1} → statement M

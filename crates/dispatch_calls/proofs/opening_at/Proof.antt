@@ -4,46 +4,46 @@ use borrow.Author.Rules.{rules}
 use Rattle.dispatch_calls.proofs.opening_at.Statement.{statement}
 use Rattle.dispatch_calls.proofs.opening_at.Tie as tie
 
-mul-method : tie.Need-overflow-mul-method
+mul-method : tie.Need-offset_bounds-numbers-at
 mul-method c = search rules
 
-shared-slice-copy-out-method : tie.Need-shared-slice-copy-out-method
+shared-slice-copy-out-method : tie.Need-bounds-numbers-at
 shared-slice-copy-out-method c = search rules
 
-add-first : tie.Need-overflow-add-first
+add-first : tie.Need-overflow_add-first
 add-first c = search rules
 
-mul-first : tie.Need-overflow-mul-first
+mul-first : tie.Need-offset_bounds-numbers-at-2
 mul-first c = search rules
 
-shared-slice-copy-out-first : tie.Need-shared-slice-copy-out-first
+shared-slice-copy-out-first : tie.Need-bounds-numbers-at-2
 shared-slice-copy-out-first c = search rules
 
-add-second : tie.Need-overflow-add-second
+add-second : tie.Need-overflow_add-second
 add-second c = search rules
 
-mul-second : tie.Need-overflow-mul-second
+mul-second : tie.Need-offset_bounds-numbers-at-3
 mul-second c = search rules
 
-shared-slice-copy-out-second : tie.Need-shared-slice-copy-out-second
+shared-slice-copy-out-second : tie.Need-bounds-numbers-at-3
 shared-slice-copy-out-second c = search rules
 
-add-tolerance : tie.Need-overflow-add-tolerance
+add-tolerance : tie.Need-overflow_add-tolerance
 add-tolerance c = search rules
 
-mul-tolerance : tie.Need-overflow-mul-tolerance
+mul-tolerance : tie.Need-offset_bounds-numbers-at-4
 mul-tolerance c = search rules
 
-shared-slice-copy-out-tolerance : tie.Need-shared-slice-copy-out-tolerance
+shared-slice-copy-out-tolerance : tie.Need-bounds-numbers-at-4
 shared-slice-copy-out-tolerance c = search rules
 
-add-share : tie.Need-overflow-add-share
+add-share : tie.Need-overflow_add-share
 add-share c = search rules
 
-mul-share : tie.Need-overflow-mul-share
+mul-share : tie.Need-offset_bounds-numbers-at-5
 mul-share c = search rules
 
-shared-slice-copy-out-share : tie.Need-shared-slice-copy-out-share
+shared-slice-copy-out-share : tie.Need-bounds-numbers-at-5
 shared-slice-copy-out-share c = search rules
 
 returns : tie.Need-returns

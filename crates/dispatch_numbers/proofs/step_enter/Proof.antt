@@ -13,7 +13,7 @@ numbered-requires : tie.Need-numbered-requires
 numbered-requires c κs = search rules
 
 returns : tie.Need-returns
-returns c = c.numbered.ensures ∙ ap dispatched_row_of c.before.enter.ensures
+returns c = c.numbered.ensures ∙ ap dispatched_row_of c.enter.ensures
 
 pub step_enter_spec : {M : Type 1} → statement M
 step_enter_spec = tie.close (tie.spec enter-requires numbered-requires returns)

@@ -13,7 +13,7 @@ numbered-requires : tie.Need-numbered-requires
 numbered-requires c κs = search rules
 
 returns : tie.Need-returns
-returns c = c.numbered.ensures ∙ ap dispatched_row_of c.before.open.ensures
+returns c = c.numbered.ensures ∙ ap dispatched_row_of c.open.ensures
 
 pub step_open_spec : {M : Type 1} → statement M
 step_open_spec = tie.close (tie.spec open-requires numbered-requires returns)

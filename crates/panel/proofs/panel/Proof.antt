@@ -21,46 +21,46 @@ use Rattle.panel.proofs.panel.Tie as tie
 claims : (s : Search) (request : List ℕ) → PanelExchange s request × (EveryValue × (EveryPanelRun × EveryFreshPanelRun))
 claims s request = (exchanged s request, (every_value, (panel_run, fresh_panel_run)))
 
-returns : tie.Need-returns
+returns : tie.Need-returns-then-reply-lt-LONGEST_REPLY
 unfolding exchanged_of reply_buffer
-returns c = simp (lt-ltb _ _ c.if1.true) (refl, (refl, claims _ _))
+returns c = simp (lt-ltb _ _ c.if-reply-lt-LONGEST_REPLY.true) (refl, (refl, claims _ _))
 
-respond-requires : tie.Need-respond-requires
+respond-requires : tie.Need-respond-told-requires
 respond-requires c κs = search rules
 
-array-share-prefix-bytes : tie.Need-array-share-prefix-bytes
+array-share-prefix-bytes : tie.Need-slice_bounds-bytes-end
 array-share-prefix-bytes c =
-    let r = c.before.before.respond in
+    let r = c.respond-told in
     let long : length r.result.reply.bytes ≡ longest_reply = search rules in
     omega (arith, r.ensures.reply.inside)
 
-slice-aggregate-place-text : tie.Need-slice-aggregate-place-text
+slice-aggregate-place-text : tie.Need-slice_bounds-place_text-end
 slice-aggregate-place-text c =
-    let r = c.before.before.before.respond in
+    let r = c.respond-told in
     let long : length r.result.reply.bytes ≡ longest_reply = search rules in
     sym (length-take-le r.result.reply.len r.result.reply.bytes (omega (arith, r.ensures.reply.inside)))
 
-place-text-requires : tie.Need-place-text-requires
+place-text-requires : tie.Need-place_text-length-requires
 place-text-requires c κs = search rules
 
-cast-length : tie.Need-overflow-cast-length
+cast-length : tie.Need-overflow_cast-length
 cast-length c =
-    let p = c.before.before.place-text in
+    let p = c.place_text-length in
     let r = c.before.before.before.before.before.before.before in
-    let s = r.before.before.before.before.args in
-    omega (arith, few s.search s.request.now s.reply.now r.before.if1.false r.respond.result r.respond.ensures _ p.ensures.0)
+    let s = r.args in
+    omega (arith, few s.search s.request.now s.reply.now r.if-reply-lt-LONGEST_REPLY.false r.respond-told.result r.respond-told.ensures _ p.ensures.0)
 
-same_length : tie.Need-same-length
+same_length : tie.Need-shape_of-reply
 same_length c = search rules
 
-returns-2 : tie.Need-returns-2
+returns-2 : tie.Need-returns
 returns-2 c =
-    let p = c.before.before.before.place-text in
+    let p = c.place_text-length in
     let r = c.before.before.before.before.before.before.before.before in
-    let s = r.before.before.before.before.args in (
-      told_is s.search s.request.now s.reply.now r.before.if1.false r.respond.result r.respond.ensures _ p.ensures.0,
+    let s = r.args in (
+      told_is s.search s.request.now s.reply.now r.if-reply-lt-LONGEST_REPLY.false r.respond-told.result r.respond-told.ensures _ p.ensures.0,
       (
-        buffer_is s.search s.request.now s.reply.now r.before.if1.false r.respond.result r.respond.ensures _ p.ensures.1,
+        buffer_is s.search s.request.now s.reply.now r.if-reply-lt-LONGEST_REPLY.false r.respond-told.result r.respond-told.ensures _ p.ensures.1,
         claims _ _,
       ),
     )
