@@ -25,7 +25,8 @@ at-loop c = c.before.before
 abbrev values_of : tie.After-crosses_at invariant-loop decreases-loop → List ℤ
 values_of c = (at-loop c).args.values.now
 
-counted : (c : tie.Joined-crosses_at invariant-loop decreases-loop) → c.if-crosses_at.found ≡ length (crossings_to (values_of c.before) ((at-loop c.before).loop-i.i + 1))
+counted : (c : tie.Joined-crosses_at invariant-loop decreases-loop)
+    → c.if-crosses_at.found ≡ length (crossings_to (values_of c.before) ((at-loop c.before).loop-i.i + 1))
 counted c =
     let m = c.before in
     let vs = values_of m in

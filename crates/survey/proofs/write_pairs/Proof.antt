@@ -43,7 +43,8 @@ filled c =
     let m = c.before in
     ⊎_elim
     (λ w. rw (w.list-is, w.n-is)
-    (written_found _ _ _ _ _ _ _ _ (at-loop m).loop-at.invariant (sym m.crosses_at.ensures ∙ w.if-crosses_at.true) (more m) (room (record { before = m; if-crosses_at = w.if-crosses_at }))))
+    (written_found _ _ _ _ _ _ _ _ (at-loop m).loop-at.invariant (sym m.crosses_at.ensures ∙ w.if-crosses_at.true) (more m)
+    (room (record { before = m; if-crosses_at = w.if-crosses_at }))))
     (λ w. rw (w.list-is, w.n-is) (written_passed _ _ _ _ _ _ _ _ (at-loop m).loop-at.invariant (sym m.crosses_at.ensures ∙ w.if-crosses_at.false) (more m)))
     c.if-crosses_at.branch-raw
 
