@@ -19,10 +19,10 @@ difference : (c : tie.Start) → to_z w32 (c.args.draw % 20001) -ℤ pos 10000 �
 unfolding drawn_value
 difference c = let h : c.args.draw % 20001 < 2 ^ 31 = omega (arith, mod-lt c.args.draw {m = 20001} (omega arith)) in rw (to_z_pos w32 h)
 
-cast-result : tie.Need-overflow-cast-result
+cast-result : tie.Need-overflow_cast-result
 cast-result c = search rules
 
-sub-result : tie.Need-overflow-sub-result
+sub-result : tie.Need-overflow_sub-result
 sub-result c = rw (difference c) (within_fits (value_within c.args.draw) tt)
 
 returns : tie.Need-returns

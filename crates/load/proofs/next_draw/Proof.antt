@@ -5,10 +5,10 @@ use Rattle.loading.specs.Loading.{next_draw}
 use Rattle.load.proofs.next_draw.Statement.{statement}
 use Rattle.load.proofs.next_draw.Tie as tie
 
-mul-result : tie.Need-overflow-mul-result
+mul-result : tie.Need-overflow_mul-result
 mul-result c = search rules
 
-cast-result : tie.Need-overflow-cast-result
+cast-result : tie.Need-overflow_cast-result-2
 cast-result c = search rules
 
 returns : tie.Need-returns

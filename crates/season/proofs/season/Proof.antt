@@ -12,31 +12,31 @@ use Rattle.season.proofs.season.Statement.{statement}
 use Rattle.season.proofs.season.Tie as tie
 
 -- a run that is not refused
-going : (c : tie.Else1) → misshapen (length c.before.before.before.args.outcomes.now) ≡ false
-going c = sym c.before.is-misshapen.ensures ∙ c.if1.false
+going : (c : tie.Else-is_misshapen) → misshapen (length c.args.outcomes.now) ≡ false
+going c = sym c.is_misshapen.ensures ∙ c.if-is_misshapen.false
 
-is-misshapen-requires : tie.Need-is-misshapen-requires
+is-misshapen-requires : tie.Need-is_misshapen-requires
 is-misshapen-requires c κs = search rules
 
-no-tally-requires : tie.Need-no-tally-requires
+no-tally-requires : tie.Need-no_tally-requires
 no-tally-requires c κs = search rules
 
-returns : tie.Need-returns
+returns : tie.Need-returns-then-is_misshapen
 returns c =
     let i = c.before in
-    let told = season_refused i.before.before.before.args.outcomes.now (sym i.before.is-misshapen.ensures ∙ i.if1.true) in
-    (rw c.no-tally.ensures told, every_season)
+    let told = season_refused i.args.outcomes.now (sym i.is_misshapen.ensures ∙ i.if-is_misshapen.true) in
+    (rw c.no_tally.ensures told, every_season)
 
-cast-count : tie.Need-overflow-cast-count
-cast-count c = omega (arith, (shaped (length c.before.before.before.args.outcomes.now) (going c)).few)
+cast-count : tie.Need-overflow_cast-count
+cast-count c = omega (arith, (shaped (length c.args.outcomes.now) (going c)).few)
 
-tallies-of-requires : tie.Need-tallies-of-requires
+tallies-of-requires : tie.Need-tallies_of-tallies-requires
 tallies-of-requires c κs = going c
 
-returns-2 : tie.Need-returns-2
+returns-2 : tie.Need-returns
 returns-2 c =
     let e = c.before in
-    (season_is e.before.before.before.args.outcomes.now (going e) _ c.tallies-of.ensures, every_season)
+    (season_is e.args.outcomes.now (going e) _ c.tallies_of-tallies.ensures, every_season)
 
 pub season_spec : {M : Type 1} → statement M
 season_spec = tie.close (tie.spec is-misshapen-requires no-tally-requires returns cast-count tallies-of-requires returns-2)

@@ -6,17 +6,17 @@ use borrow.Author.Rules.{rules}
 use Rattle.sheet_outcomes.proofs.has_opening.Statement.{statement}
 use Rattle.sheet_outcomes.proofs.has_opening.Tie as tie
 
-enum_told : tie.Need-enum-told
+enum_told : tie.Need-enum_told-1
 enum_told c = search rules
 
-enum-known-form : tie.Need-enum-known-form
+enum-known-form : tie.Need-enum_known-form
 enum-known-form c = search rules
 
-returns : tie.Need-returns
+returns : tie.Need-returns-in-Read
 returns c = search rules
 
-returns-2 : tie.Need-returns-2
-returns-2 c = sym (ap has_opening c.before.form.given.1)
+returns-2 : tie.Need-returns-in-Refused
+returns-2 c = sym (ap has_opening c.in-Refused.is)
 
 pub has_opening_spec : {M : Type 1} → statement M
 has_opening_spec = tie.close (tie.spec enum_told enum-known-form returns returns-2)

@@ -17,30 +17,30 @@ use Rattle.sheet_outcomes.proofs.method_number.Tie as tie
 read_back : (s : tie.Start) → to_z w32 (of_z w32 s.args.method) ≡ s.args.method
 read_back s = search rules
 
-tested : (c : tie.After-beyond) → c.beyond.result ≡ outside 0 2 c.before.args.method
+tested : (c : tie.After-beyond) → c.beyond.result ≡ outside 0 2 c.args.method
 tested c = rw (read_back c.before) at c.beyond.ensures
 
-measured : (c : tie.After-magnitude) → c.magnitude.result ≡ nat_abs c.before.before.before.args.method
+measured : (c : tie.After-magnitude) → c.magnitude.result ≡ nat_abs c.args.method
 measured c = rw (read_back c.before.before.before) at c.magnitude.ensures
 
 -- a method in its range
-inside : (c : tie.Else1) → outside 0 2 c.before.before.args.method ≡ false
-inside c = sym (tested c.before) ∙ c.if1.false
+inside : (c : tie.Else-beyond) → outside 0 2 c.args.method ≡ false
+inside c = sym (tested c.before) ∙ c.if-beyond.false
 
 beyond-requires : tie.Need-beyond-requires
 beyond-requires c κs = search rules
 
-returns : tie.Need-returns
+returns : tie.Need-returns-then-beyond
 unfolding method_number
-returns c = simp (sym (tested c.before) ∙ c.if1.true)
+returns c = simp (sym (tested c.before) ∙ c.if-beyond.true)
 
 magnitude-requires : tie.Need-magnitude-requires
 magnitude-requires c κs = search rules
 
-cast-result : tie.Need-overflow-cast-result
-cast-result c = omega (arith, measured c, (ranged 0 2 c.before.before.before.args.method (inside c.before)).most)
+cast-result : tie.Need-overflow_cast-result
+cast-result c = omega (arith, measured c, (ranged 0 2 c.args.method (inside c.before)).most)
 
-returns-2 : tie.Need-returns-2
+returns-2 : tie.Need-returns
 unfolding method_number
 returns-2 c = simp (inside c.before) (measured c)
 

@@ -16,42 +16,42 @@ use Rattle.sheet_outcomes.proofs.method_written.Tie as tie
 known : (s : tie.Start) → By (method_written s.args.text.now) (opening_of (first_record s.args.text.now)) s.args.form
 known s = rw s.requires (by_form s.args.text.now)
 
-opening : (c : tie.Else1)
-    → let text = c.before.before.before.args.text.now in
+opening : (c : tie.Else-not-has_opening)
+    → let text = c.args.text.now in
     First (method_written text) (opening_of (first_record text))
-opening c = (known c.before.before.before).with_one (sym c.before.has-opening.ensures ∙ not-false _ c.if1.false)
+opening c = (known c.before.before.before).with_one (sym c.has_opening.ensures ∙ not-false _ c.if-not-has_opening.false-raw)
 
-has-opening-requires : tie.Need-has-opening-requires
+has-opening-requires : tie.Need-has_opening-requires
 has-opening-requires c κs = search rules
 
-returns : tie.Need-returns
-returns c = (known c.before.before.before).without (sym c.before.has-opening.ensures ∙ not-true _ c.if1.true)
+returns : tie.Need-returns-then-not-has_opening
+returns c = (known c.before.before.before).without (sym c.has_opening.ensures ∙ not-true _ c.if-not-has_opening.true-raw)
 
-scan-pair-requires : tie.Need-scan-pair-requires
+scan-pair-requires : tie.Need-scan_pair-requires
 scan-pair-requires c κs = search rules
 
-enum-known-first : tie.Need-enum-known-first
+enum-known-first : tie.Need-enum_known-first
 enum-known-first c = search rules
 
-method-number-requires : tie.Need-method-number-requires
+method-number-requires : tie.Need-method_number-requires
 method-number-requires c κs = search rules
 
-enum_told : tie.Need-enum-told
+enum_told : tie.Need-enum_told-1
 enum_told c = search rules
 
-returns-2 : tie.Need-returns-2
+returns-2 : tie.Need-returns-in-Are
 returns-2 c =
-    let f = c.before.before in
-    let p = f.before.before in
+    let f = c.before in
+    let p = f.before in
     let o = opening p.before in
-    let m : to_z w32 (of_z w32 f.first.given.0.0) ≡ f.first.given.0.0 = search rules in
-    let scanned = first_scanned _ o.found (sym p.scan-pair.ensures ∙ f.first.given.1) in
-    (rw m at c.method-number.ensures) ∙ scanned ∙ sym o.is
+    let m : to_z w32 (of_z w32 f.in-Are.first) ≡ f.in-Are.first = search rules in
+    let scanned = first_scanned _ o.found (sym p.scan_pair.ensures ∙ f.in-Are.is) in
+    (rw m at c.method_number.ensures) ∙ scanned ∙ sym o.is
 
-returns-3 : tie.Need-returns-3
+returns-3 : tie.Need-returns-in-Malformed
 returns-3 c =
-    let p = c.before.before in
-    never_unscanned _ (opening p.before).found (sym p.scan-pair.ensures ∙ c.enum_told.given.1)
+    let p = c.before in
+    never_unscanned _ (opening p.before).found (sym p.scan_pair.ensures ∙ c.in-Malformed.is)
 
 pub method_written_spec : {M : Type 1} → statement M
 method_written_spec =

@@ -25,15 +25,16 @@ at-loop c = c.before.before
 abbrev values_of : tie.After-crosses_at invariant-loop decreases-loop → List ℤ
 values_of c = (at-loop c).args.values.now
 
-counted : (c : tie.Joined-crosses_at invariant-loop decreases-loop) → c.if-crosses_at.found ≡ length (crossings_to (values_of c.before) ((at-loop c.before).loop-i.i + 1))
+counted : (c : tie.Joined-crosses_at invariant-loop decreases-loop)
+    → c.if-crosses_at.found ≡ length (crossings_to (values_of c.before) ((at-loop c.before).loop-i.i + 1))
 counted c =
     let m = c.before in
     let vs = values_of m in
     let i = (at-loop m).loop-i.i in
     rw (add-one i)
     (⊎_elim
-    (λ w. omega (arith, w.1, (at-loop m).loop-i.invariant.1, count_more vs i (sym m.crosses_at.ensures ∙ w.0.taken)))
-    (λ w. w.1 ∙ (at-loop m).loop-i.invariant.1 ∙ ap length (sym (crossings_same vs i (sym m.crosses_at.ensures ∙ w.0.left))))
+    (λ w. omega (arith, w.found-is, (at-loop m).loop-i.invariant.1, count_more vs i (sym m.crosses_at.ensures ∙ w.if-crosses_at.true)))
+    (λ w. w.found-is ∙ (at-loop m).loop-i.invariant.1 ∙ ap length (sym (crossings_same vs i (sym m.crosses_at.ensures ∙ w.if-crosses_at.false))))
     c.if-crosses_at.branch-raw)
 
 loop-holds : tie.Need-loop-i-init invariant-loop decreases-loop

@@ -42,9 +42,10 @@ filled : (c : tie.Joined-crosses_at invariant-loop decreases-loop)
 filled c =
     let m = c.before in
     ⊎_elim
-    (λ w. rw (w.1, w.2)
-    (written_found _ _ _ _ _ _ _ _ (at-loop m).loop-at.invariant (sym m.crosses_at.ensures ∙ w.0.taken) (more m) (room (record { before = m; if1 = w.0 }))))
-    (λ w. rw (w.1, w.2) (written_passed _ _ _ _ _ _ _ _ (at-loop m).loop-at.invariant (sym m.crosses_at.ensures ∙ w.0.left) (more m)))
+    (λ w. rw (w.list-is, w.n-is)
+    (written_found _ _ _ _ _ _ _ _ (at-loop m).loop-at.invariant (sym m.crosses_at.ensures ∙ w.if-crosses_at.true) (more m)
+    (room (record { before = m; if-crosses_at = w.if-crosses_at }))))
+    (λ w. rw (w.list-is, w.n-is) (written_passed _ _ _ _ _ _ _ _ (at-loop m).loop-at.invariant (sym m.crosses_at.ensures ∙ w.if-crosses_at.false) (more m)))
     c.if-crosses_at.branch-raw
 
 loop-holds : tie.Need-loop-at-init invariant-loop decreases-loop
