@@ -116,7 +116,7 @@ module _ (m : Method) (text : List ℕ) (o : Opening) (answers : List Answer) (r
     under_opening : (sheet_under m text).search.opening ≡ opening_under m o
     under_opening =
         ap (λ (e : Entered). e.search.opening) (sym twin_same)
-        ∙ clean.opening-held twin_text twin_taken (opening_under m o) answers twin_read
+        ∙ clean.opening_held twin_text twin_taken (opening_under m o) answers twin_read
 
     under_same : sheet_of (cleaned_of (sheet_under m text)) ≡ sheet_under m text
     under_same = ap sheet_of (sym twin_cleaned) ∙ twin_claims.same ∙ twin_same
@@ -188,7 +188,7 @@ module _ (s : Search) (a : AcceptedSearch (search_under old_default s)) where
   answers = held_answers new
 
   fine : is_refused (progress_of new.opening (values_of new)) ≡ false
-  fine = clean.values-accepted new a
+  fine = clean.values_accepted new a
 
   new_accepted : Accepted new.opening
   new_accepted = clean.accepted new.opening (values_of new) fine
@@ -200,7 +200,7 @@ module _ (s : Search) (a : AcceptedSearch (search_under old_default s)) where
   few = clean.fits new.opening (values_of new) fine
 
   claims : CleanSheet new
-  claims = clean.clean-sheets new a
+  claims = clean.clean_sheets new a
 
   -- the old clean sheet is read as the opening as held, and the answers by the old reading
   old_spelled : CleanText (clean_under old_default s) s.opening answers
