@@ -200,7 +200,7 @@ module _ (s : Search) (a : AcceptedSearch (search_under old_default s)) where
   few = clean.fits new.opening (values_of new) fine
 
   claims : CleanSheet new
-  claims = clean.clean-sheets new a
+  claims = clean.clean_sheets new a
 
   -- the old clean sheet is read as the opening as held, and the answers by the old reading
   old_spelled : CleanText (clean_under old_default s) s.opening answers

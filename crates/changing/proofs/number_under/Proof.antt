@@ -13,17 +13,17 @@ use Rattle.changing.proofs.number_under.Tie as tie
 fits : (s : tie.Start) → SFits w32 s.args.method
 fits s = search rules
 
-test : (c : tie.After-equal) → eq_z c.before.args.method (pos 0) ≡ c.equal.result
+test : (c : tie.After-equal) → eq_z c.args.method (pos 0) ≡ c.equal.result
 test c = sym (rw (read (fits c.before)) at c.equal.ensures)
 
 equal-requires : tie.Need-equal-requires
 equal-requires c κs = search rules
 
-returns : tie.Need-returns
-returns c = simp (test c.before ∙ c.if1.true)
+returns : tie.Need-returns-then-equal
+returns c = simp (test c.before ∙ c.if-equal.true)
 
-returns-2 : tie.Need-returns-2
-returns-2 c = read (fits c.before.before) ∙ simp (test c.before ∙ c.if1.false)
+returns-2 : tie.Need-returns-else-equal
+returns-2 c = read (fits c.before.before) ∙ simp (test c.before ∙ c.if-equal.false)
 
 pub number_under_spec : {M : Type 1} → statement M
 number_under_spec = tie.close (tie.spec equal-requires returns returns-2)

@@ -22,20 +22,20 @@ writable text taken =
     let read = search_accepted (changed_sheet text) (ap (λ (e : Entered). is_refusal e.report) c.same ∙ taken) in
     record { search = ap (λ (e : Entered). is_refusal (held_report e.search)) (sym c.same) ∙ read; short = c.short }
 
-read-old-sheet-requires : tie.Need-read-old-sheet-requires
+read-old-sheet-requires : tie.Need-read_old_sheet-e-requires
 read-old-sheet-requires c κs = search rules
 
-write-outcome-requires : tie.Need-write-outcome-requires
+write-outcome-requires : tie.Need-write_outcome-requires
 write-outcome-requires c κs = search rules
 
-same_length : tie.Need-same-length
+same_length : tie.Need-shape_of-out
 same_length c = search rules
 
 returns : tie.Need-returns
 returns c =
     let w = c.before.before in
-    let read = w.before.before.read-old-sheet in
-    let told = w.write-outcome.ensures in
+    let read = w.read_old_sheet-e in
+    let told = w.write_outcome.ensures in
     let k = cleans read.result _ read.ensures.0 (writable _) _ _ _ told.0 told.1.0 told.1.1 in
     (k.long, (k.bytes, (k.short, (changed_sheets _, refused_before))))
 

@@ -14,25 +14,25 @@ use borrow.Author.Rules.{rules}
 use Rattle.old_sheets.proofs.read_old_sheet.Statement.{statement}
 use Rattle.old_sheets.proofs.read_old_sheet.Tie as tie
 
-read-records-requires : tie.Need-read-records-requires
+read-records-requires : tie.Need-read_records-e-requires
 read-records-requires c κs = search rules
 
-under-old-default-requires : tie.Need-under-old-default-requires
+under-old-default-requires : tie.Need-under_old_default-e-requires
 under-old-default-requires c κs = search rules
 
 judge-requires : tie.Need-judge-requires
 judge-requires c κs =
-    let read = c.before.read-records in
+    let read = c.read_records-e in
     subst (λ (e : Entries). e.count ≤ slots) (sym read.ensures) (entries_few _)
 
 returns : tie.Need-returns
 returns c =
     let u = c.before in
-    let r = u.before.read-records in
+    let r = u.read_records-e in
     let e = r.result in
     let named : Opening → Entries = λ o. record { form = e.form; opening = o; count = e.count; points = e.points; values = e.values } in (
       c.judge.ensures
-          ∙ ap (λ (o : Opening). judged (named o) e.form) u.under-old-default.ensures
+          ∙ ap (λ (o : Opening). judged (named o) e.form) u.under_old_default-e.ensures
           ∙ under_judged old_default _ e r.ensures,
       under,
     )

@@ -33,58 +33,58 @@ one_length n h = ap length (decimal_one n h)
 more_length : (n : ℕ) → 10 ≤ n → length (decimal_of n) ≡ length (decimal_of (n / 10)) + 1
 more_length n h = rw (decimal_more n h, length-append)
 
-cast_out : (t : ℕ) → lts.Need-overflow-cast-out (below t) (at t) put-digits.Post
+cast_out : (t : ℕ) → lts.Need-overflow_cast-out (below t) (at t) put-digits.Post
 cast_out t c = search rules
 
-add_out : (t : ℕ) → lts.Need-overflow-add-out (below t) (at t) put-digits.Post
+add_out : (t : ℕ) → lts.Need-overflow_add-out (below t) (at t) put-digits.Post
 add_out t c = search rules
 
-slice_write_out : (t : ℕ) → lts.Need-slice-write-out (below t) (at t) put-digits.Post
-slice_write_out t c = omega (arith, one_length c.before.before.args.n c.if1.true)
+slice_write_out : (t : ℕ) → lts.Need-bounds-out-at (below t) (at t) put-digits.Post
+slice_write_out t c = omega (arith, one_length c.args.n c.if-n-lt10.true)
 
-add_result : (t : ℕ) → lts.Need-overflow-add-result (below t) (at t) put-digits.Post
+add_result : (t : ℕ) → lts.Need-overflow_add-result (below t) (at t) put-digits.Post
 add_result t c = search rules
 
-same_length : (t : ℕ) → lts.Need-same-length (below t) (at t) put-digits.Post
+same_length : (t : ℕ) → lts.Need-shape_of-out-then-n-lt10 (below t) (at t) put-digits.Post
 same_length t c = search rules
 
-returns : (t : ℕ) → lts.Need-returns (below t) (at t) put-digits.Post
+returns : (t : ℕ) → lts.Need-returns-then-n-lt10 (below t) (at t) put-digits.Post
 returns t c =
-    let s = c.before.before.args in
-    in_words (puts_byte s.out.now s.at _ (omega (arith, one_length s.n c.if1.true))) (sym (decimal_one s.n c.if1.true)) refl refl
+    let s = c.args in
+    in_words (puts_byte s.out.now s.at _ (omega (arith, one_length s.n c.if-n-lt10.true))) (sym (decimal_one s.n c.if-n-lt10.true)) refl refl
 
-put_digits_requires : (t : ℕ) → lts.Need-put-digits-requires (below t) (at t) put-digits.Post
-put_digits_requires t c κs = (omega arith, omega (arith, more_length c.before.before.before.args.n c.before.if1.false))
+put_digits_requires : (t : ℕ) → lts.Need-put_digits-end-requires (below t) (at t) put-digits.Post
+put_digits_requires t c κs = (omega arith, omega (arith, more_length c.args.n c.if-n-lt10.false))
 
-cast_out_2 : (t : ℕ) → lts.Need-overflow-cast-out-2 (below t) (at t) put-digits.Post
+cast_out_2 : (t : ℕ) → lts.Need-overflow_cast-out-2 (below t) (at t) put-digits.Post
 cast_out_2 t c = search rules
 
-add_out_2 : (t : ℕ) → lts.Need-overflow-add-out-2 (below t) (at t) put-digits.Post
+add_out_2 : (t : ℕ) → lts.Need-overflow_add-out-2 (below t) (at t) put-digits.Post
 add_out_2 t c = search rules
 
 -- behind the digits of the tenth part there is room for one more
-room : (t : ℕ) (c : lts.After-slice-known2 (below t) (at t) put-digits.Post)
-    → c.before.before.put-digits.result < length c.before.before.put-digits.new.0
+room : (t : ℕ) (c : lts.After-slice_known-2-1 (below t) (at t) put-digits.Post)
+    → c.put_digits-end.result < length c.put_digits-end.new.out
 room t c =
-    let p = c.before.before.put-digits.ensures in
-    let s = c.before.before.before.before.before.before.args in
-    omega (arith, p.ends, same_size p, more_length s.n c.before.before.before.before.if1.false)
+    let p = c.put_digits-end.ensures in
+    let s = c.args in
+    omega (arith, p.ends, same_size p, more_length s.n c.if-n-lt10.false)
 
-slice_write_out_2 : (t : ℕ) → lts.Need-slice-write-out-2 (below t) (at t) put-digits.Post
+slice_write_out_2 : (t : ℕ) → lts.Need-bounds-out-end (below t) (at t) put-digits.Post
 slice_write_out_2 t c = room t c
 
-add_result_2 : (t : ℕ) → lts.Need-overflow-add-result-2 (below t) (at t) put-digits.Post
+add_result_2 : (t : ℕ) → lts.Need-overflow_add-result-2 (below t) (at t) put-digits.Post
 add_result_2 t c = let h = room t c in search rules
 
-same_length_2 : (t : ℕ) → lts.Need-same-length-2 (below t) (at t) put-digits.Post
+same_length_2 : (t : ℕ) → lts.Need-shape_of-out (below t) (at t) put-digits.Post
 same_length_2 t c = search rules
 
-returns_2 : (t : ℕ) → lts.Need-returns-2 (below t) (at t) put-digits.Post
+returns_2 : (t : ℕ) → lts.Need-returns (below t) (at t) put-digits.Post
 returns_2 t c =
-    let d = c.before.before.put-digits in
-    let n = c.before.before.before.before.before.before.args.n in
-    in_words (puts_more d.ensures (puts_byte d.new.0 d.result _ (room t c)))
-    (sym (decimal_more n c.before.before.before.before.if1.false)) refl refl
+    let d = c.put_digits-end in
+    let n = c.args.n in
+    in_words (puts_more d.ensures (puts_byte d.new.out d.result _ (room t c)))
+    (sym (decimal_more n c.if-n-lt10.false)) refl refl
 
 pub +put_digits_spec : {M : Type 1} → statement M
 +put_digits_spec =

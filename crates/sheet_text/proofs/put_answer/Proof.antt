@@ -14,55 +14,55 @@ use Rattle.sheet_text.specs.PiecesLaws.{answer_length, same_size, puts_more, put
 use Rattle.sheet_text.proofs.put_answer.Statement.{statement}
 use Rattle.sheet_text.proofs.put_answer.Tie as tie
 
-put-digits-requires : tie.Need-put-digits-requires
+put-digits-requires : tie.Need-put_digits-a-requires
 put-digits-requires c κs = let s = c.before.before in omega (arith, s.requires, answer_length s.args.point s.args.value)
 
 -- ---- the point and its comma
 
-abbrev start_of : tie.After-put-digits → tie.Start
+abbrev start_of : tie.After-put_digits-a → tie.Start
 start_of c = c.before.before.before
 
-room : (c : tie.After-put-digits) → c.put-digits.result < length c.put-digits.new.0
+room : (c : tie.After-put_digits-a) → c.put_digits-a.result < length c.put_digits-a.new.out
 room c =
     let s = start_of c in
-    omega (arith, s.pre, answer_length s.args.point s.args.value, c.put-digits.ensures.ends, same_size c.put-digits.ensures)
+    omega (arith, s.requires, answer_length s.args.point s.args.value, c.put_digits-a.ensures.ends, same_size c.put_digits-a.ensures)
 
-point : (c : tie.After-put-digits)
+point : (c : tie.After-put_digits-a)
     → Puts (start_of c).args.out.now (start_of c).args.at (decimal_of (start_of c).args.point ++ comma ∷ [])
-    (set c.put-digits.new.0 c.put-digits.result comma) (c.put-digits.result + 1)
-point c = puts_more c.put-digits.ensures (puts_byte c.put-digits.new.0 c.put-digits.result comma (room c))
+    (set c.put_digits-a.new.out c.put_digits-a.result comma) (c.put_digits-a.result + 1)
+point c = puts_more c.put_digits-a.ensures (puts_byte c.put_digits-a.new.out c.put_digits-a.result comma (room c))
 
-slice-write-out : tie.Need-slice-write-out
+slice-write-out : tie.Need-bounds-out-a
 slice-write-out c = room c.before.before
 
-add-put-last : tie.Need-overflow-add-put-last
+add-put-last : tie.Need-overflow_add-a
 add-put-last c = search rules
 
-put-last-requires : tie.Need-put-last-requires
+put-last-requires : tie.Need-put_last-requires
 put-last-requires c κs =
     let d = c.before.before.before in
     let s = start_of d in
-    rw (read s.fits.value)
+    rw (read s.ranges.value)
     (omega (
       arith,
-      s.pre,
+      s.requires,
       answer_length s.args.point s.args.value,
-      d.put-digits.ensures.ends,
+      d.put_digits-a.ensures.ends,
       same_size (point d),
     ))
 
 -- ---- the value, and CR LF
 
-abbrev digits_of : tie.After-put-last → tie.After-put-digits
+abbrev digits_of : tie.After-put_last → tie.After-put_digits-a
 digits_of c = c.before.before.before.before
 
-whole : (c : tie.After-put-last)
+whole : (c : tie.After-put_last)
     → Puts (start_of (digits_of c)).args.out.now (start_of (digits_of c)).args.at
-    (answer_text (start_of (digits_of c)).args.point (start_of (digits_of c)).args.value) c.put_last.new.0 c.put_last.result
+    (answer_text (start_of (digits_of c)).args.point (start_of (digits_of c)).args.value) c.put_last.new.out c.put_last.result
 unfolding answer_text number_text
 whole c = puts_more (point (digits_of c)) (rw (read (start_of (digits_of c)).ranges.value) at c.put_last.ensures)
 
-same_length : tie.Need-same-length
+same_length : tie.Need-shape_of-out
 same_length c = same_size (whole c.before.before)
 
 returns : tie.Need-returns
@@ -71,10 +71,4 @@ returns c = whole c.before.before
 pub put_answer_spec : {M : Type 1} → statement M
 put_answer_spec =
     tie.close
-    (tie.spec
-    put-digits-requires
-    slice-write-out
-    add-put-last
-    put-last-requires
-    same_length
-    returns)
+    (tie.spec put-digits-requires slice-write-out add-put-last put-last-requires same_length returns)

@@ -16,61 +16,61 @@ use Rattle.sheet_text.specs.PiecesLaws.{number_below, number_above, same_size, p
 use Rattle.sheet_text.proofs.put_integer.Statement.{statement}
 use Rattle.sheet_text.proofs.put_integer.Tie as tie
 
-magnitude-requires : tie.Need-magnitude-requires
+magnitude-requires : tie.Need-magnitude-n-requires
 magnitude-requires c κs = search rules
 
 -- the digits are those of the magnitude
-size : (c : tie.After-magnitude) → c.magnitude.result ≡ nat_abs c.before.before.args.z
-size c = rw (read c.before.before.ranges.z) at c.magnitude.ensures
+size : (c : tie.After-magnitude-n) → c.magnitude-n.result ≡ nat_abs c.args.z
+size c = rw (read c.ranges.z) at c.magnitude-n.ensures
 
-below : (c : tie.Then1) → number_text c.before.before.before.args.z ≡ minus ∷ decimal_of c.before.magnitude.result
+below : (c : tie.Then-z-lt0) → number_text c.args.z ≡ minus ∷ decimal_of c.magnitude-n.result
 below c =
     let s = c.before.before.before in
-    number_below s.args.z (rw (read s.ranges.z) at c.if1.true) ∙ ap (λ (n : ℕ). minus ∷ decimal_of n) (sym (size c.before))
+    number_below s.args.z (rw (read s.ranges.z) at c.if-z-lt0.true) ∙ ap (λ (n : ℕ). minus ∷ decimal_of n) (sym (size c.before))
 
-above : (c : tie.Else1) → number_text c.before.before.before.args.z ≡ decimal_of c.before.magnitude.result
+above : (c : tie.Else-z-lt0) → number_text c.args.z ≡ decimal_of c.magnitude-n.result
 above c =
     let s = c.before.before.before in
-    number_above s.args.z (rw (read s.ranges.z) at c.if1.false) ∙ ap decimal_of (sym (size c.before))
+    number_above s.args.z (rw (read s.ranges.z) at c.if-z-lt0.false) ∙ ap decimal_of (sym (size c.before))
 
 -- there is room for the minus
-room : (c : tie.Then1) → c.before.before.before.args.at < length c.before.before.before.args.out.now
-room c = omega (arith, c.before.before.before.requires, ap length (below c))
+room : (c : tie.Then-z-lt0) → c.args.at < length c.args.out.now
+room c = omega (arith, c.requires, ap length (below c))
 
-slice-write-out : tie.Need-slice-write-out
+slice-write-out : tie.Need-bounds-out-at
 slice-write-out c = room c
 
-add-put-digits : tie.Need-overflow-add-put-digits
+add-put-digits : tie.Need-overflow_add-at
 add-put-digits c = search rules
 
-put-digits-requires : tie.Need-put-digits-requires
+put-digits-requires : tie.Need-put_digits-requires
 put-digits-requires c κs =
     let s = c.before.before.before.before in
     omega (arith, s.requires, ap length (below c.before), length-set s.args.out.now s.args.at minus)
 
 -- the minus, and the digits behind it
-signed : (c : tie.After-put-digits)
-    → Puts c.before.before.before.before.before.args.out.now c.before.before.before.before.before.args.at
-    (number_text c.before.before.before.before.before.args.z) c.put-digits.new.0 c.put-digits.result
+signed : (c : tie.After-put_digits)
+    → Puts c.args.out.now c.args.at
+    (number_text c.args.z) c.put_digits.new.out c.put_digits.result
 signed c =
     let t = c.before.before in
-    let s = t.before.before.before.args in
-    in_words (puts_more (puts_byte s.out.now s.at minus (room t)) c.put-digits.ensures) (sym (below t)) refl refl
+    let s = t.args in
+    in_words (puts_more (puts_byte s.out.now s.at minus (room t)) c.put_digits.ensures) (sym (below t)) refl refl
 
-same_length : tie.Need-same-length
+same_length : tie.Need-shape_of-out-then-z-lt0
 same_length c = same_size (signed c.before.before)
 
-returns : tie.Need-returns
+returns : tie.Need-returns-then-z-lt0
 returns c = signed c.before.before
 
-put-digits-requires-2 : tie.Need-put-digits-requires-2
-put-digits-requires-2 c κs = omega (arith, c.before.before.before.before.requires, ap length (above c.before))
+put-digits-requires-2 : tie.Need-put_digits-requires-2
+put-digits-requires-2 c κs = omega (arith, c.requires, ap length (above c.before))
 
-same-length-2 : tie.Need-same-length-2
+same-length-2 : tie.Need-shape_of-out
 same-length-2 c = search rules
 
-returns-2 : tie.Need-returns-2
-returns-2 c = let d = c.before.before in in_words d.put-digits2.ensures (sym (above d.before.before)) refl refl
+returns-2 : tie.Need-returns
+returns-2 c = let d = c.before.before in in_words d.put_digits-2.ensures (sym (above d.before.before)) refl refl
 
 pub put_integer_spec : {M : Type 1} → statement M
 put_integer_spec =

@@ -33,81 +33,81 @@ as_read n m end z f h = subst (λ (x : ℤ). n + length (field_text x end) ≤ m
 
 -- ---- method
 
-fits_method : (c : tie.After-struct-told) → SFits w32 c.before.before.before.args.o.method
+fits_method : (c : tie.After-struct_told-1) → SFits w32 c.args.o.method
 fits_method c = search rules
 
-put-field-requires : tie.Need-put-field-requires
+put-field-requires : tie.Need-put_field-a-requires
 put-field-requires c κs =
     let s = c.before.before.before in
     as_read _ _ _ _ (fits_method c) (omega (arith, s.requires, opening_length s.args.o))
 
-abbrev start_of : tie.After-put-field → tie.Start
+abbrev start_of : tie.After-put_field-a → tie.Start
 start_of c = c.before.before.before.before
 
-first : (c : tie.After-put-field)
-    → Puts (start_of c).args.out.now (start_of c).args.at (one (start_of c).args.o) c.put-field.new.0 c.put-field.result
-first c = rw (read (fits_method c.before)) at c.put-field.ensures
+first : (c : tie.After-put_field-a)
+    → Puts (start_of c).args.out.now (start_of c).args.at (one (start_of c).args.o) c.put_field-a.new.out c.put_field-a.result
+first c = rw (read (fits_method c.before)) at c.put_field-a.ensures
 
 -- ---- x0
 
-fits_first : (c : tie.After-struct-told2) → SFits w32 (start_of c.before.before.before.before).args.o.first
+fits_first : (c : tie.After-struct_told-2-1) → SFits w32 (start_of c.before.before.before.before).args.o.first
 fits_first c = search rules
 
-put-field-requires-2 : tie.Need-put-field-requires-2
+put-field-requires-2 : tie.Need-put_field-b-requires
 put-field-requires-2 c κs =
     let f = c.before.before.before.before in
     let s = start_of f in
-    as_read _ _ _ _ (fits_first c) (omega (arith, s.pre, opening_length s.args.o, (first f).ends, same_size (first f)))
+    as_read _ _ _ _ (fits_first c) (omega (arith, s.requires, opening_length s.args.o, (first f).ends, same_size (first f)))
 
-abbrev start-of-2 : tie.After-put-field2 → tie.Start
+abbrev start-of-2 : tie.After-put_field-b → tie.Start
 start-of-2 c = start_of c.before.before.before.before.before
 
-second : (c : tie.After-put-field2)
-    → Puts (start-of-2 c).args.out.now (start-of-2 c).args.at (two (start-of-2 c).args.o) c.put-field2.new.0 c.put-field2.result
-second c = puts_more (first c.before.before.before.before.before) (rw (read (fits_first c.before)) at c.put-field2.ensures)
+second : (c : tie.After-put_field-b)
+    → Puts (start-of-2 c).args.out.now (start-of-2 c).args.at (two (start-of-2 c).args.o) c.put_field-b.new.out c.put_field-b.result
+second c = puts_more (first c.before.before.before.before.before) (rw (read (fits_first c.before)) at c.put_field-b.ensures)
 
 two_length : (o : Opening) → length (two o) ≡ length (one o) + length (field_text o.first comma)
 two_length o = length-append (one o) (field_text o.first comma)
 
 -- ---- x1
 
-fits_second : (c : tie.After-struct-told3) → SFits w32 (start-of-2 c.before.before.before.before).args.o.second
+fits_second : (c : tie.After-struct_told-3-1) → SFits w32 (start-of-2 c.before.before.before.before).args.o.second
 fits_second c = search rules
 
-put-field-requires-3 : tie.Need-put-field-requires-3
+put-field-requires-3 : tie.Need-put_field-c-requires
 put-field-requires-3 c κs =
     let f = c.before.before.before.before in
     let s = start-of-2 f in
-    as_read _ _ _ _ (fits_second c) (omega (arith, s.pre, opening_length s.args.o, two_length s.args.o, (second f).ends, same_size (second f)))
+    as_read _ _ _ _ (fits_second c) (omega (arith, s.requires, opening_length s.args.o, two_length s.args.o, (second f).ends, same_size (second f)))
 
-abbrev start-of-3 : tie.After-put-field3 → tie.Start
+abbrev start-of-3 : tie.After-put_field-c → tie.Start
 start-of-3 c = start-of-2 c.before.before.before.before.before
 
-third : (c : tie.After-put-field3)
-    → Puts (start-of-3 c).args.out.now (start-of-3 c).args.at (three (start-of-3 c).args.o) c.put-field3.new.0 c.put-field3.result
-third c = puts_more (second c.before.before.before.before.before) (rw (read (fits_second c.before)) at c.put-field3.ensures)
+third : (c : tie.After-put_field-c)
+    → Puts (start-of-3 c).args.out.now (start-of-3 c).args.at (three (start-of-3 c).args.o) c.put_field-c.new.out c.put_field-c.result
+third c = puts_more (second c.before.before.before.before.before) (rw (read (fits_second c.before)) at c.put_field-c.ensures)
 
 three_length : (o : Opening) → length (three o) ≡ length (two o) + length (field_text o.second comma)
 three_length o = length-append (two o) (field_text o.second comma)
 
 -- ---- τ and p
 
-fits_tolerance : (c : tie.After-struct-told4) → SFits w32 (start-of-3 c.before.before.before.before).args.o.tolerance
+fits_tolerance : (c : tie.After-struct_told-4-1) → SFits w32 (start-of-3 c.before.before.before.before).args.o.tolerance
 fits_tolerance c = search rules
 
-fits_share : (c : tie.After-struct-told4) → SFits w32 (start-of-3 c.before.before.before.before).args.o.share
+fits_share : (c : tie.After-struct_told-4-1) → SFits w32 (start-of-3 c.before.before.before.before).args.o.share
 fits_share c = search rules
 
-put-tail-requires : tie.Need-put-tail-requires
+put-tail-requires : tie.Need-put_tail-requires
 put-tail-requires c κs =
     let t = c.before in
     let f = t.before.before.before.before in
     let s = start-of-3 f in
     let o = s.args.o in
     rw (read (fits_tolerance t), read (fits_share t))
-    (omega (arith, s.pre, opening_length o, two_length o, three_length o, (third f).ends, same_size (third f)))
+    (omega (arith, s.requires, opening_length o, two_length o, three_length o, (third f).ends, same_size (third f)))
 
-same_length : tie.Need-same-length
+same_length : tie.Need-shape_of-out
 same_length c = search rules
 
 returns : tie.Need-returns
@@ -116,7 +116,7 @@ returns c =
     let p = c.before.before in
     let t = p.before.before in
     let f = t.before.before.before.before in
-    puts_more (third f) (rw (read (fits_tolerance t), read (fits_share t)) at p.put-tail.ensures)
+    puts_more (third f) (rw (read (fits_tolerance t), read (fits_share t)) at p.put_tail.ensures)
 
 pub put_opening_spec : {M : Type 1} → statement M
 put_opening_spec =

@@ -33,51 +33,45 @@ fitted (Report.Next point taken) buffer text t = refl
 fitted (Report.Stop lower upper better taken) buffer text t = refl
 fitted (Report.Refused n i) buffer text t = never t
 
-report-requires : tie.Need-report-requires
+report-requires : tie.Need-report-report-requires
 report-requires c κs = search rules
 
-enum-known-report : tie.Need-enum-known-report
+enum-known-report : tie.Need-enum_known-report
 enum-known-report c = search rules
 
-returns : tie.Need-returns
+returns : tie.Need-returns-in-Refused
 unfolding written_of buffer_of
 returns c =
-    let told = c.before.before.before.report.ensures in
-    rw (sym told ∙ c.before.report2.given.1) (refl, (refl, λ h. never h))
+    let told = c.report-report.ensures in
+    rw (sym told ∙ c.in-Refused.is) (refl, (refl, λ h. never h))
 
 -- the report is no refusal
-accepted : (m : tie.At-match-keys2) → AcceptedSearch m.before.before.before.args.t1
+accepted : (m : tie.In_default) → AcceptedSearch m.args.search
 accepted m =
-    let asked = m.before.report in
-    record { accepted = ap is_refusal (sym asked.ensures) ∙ not_refusal asked.result m.match.keys2; full = search rules }
+    let asked = m.report-report in
+    record { accepted = ap is_refusal (sym asked.ensures) ∙ not_refusal asked.result m.in_default.in_default-own.keys2; full = search rules }
 
-write-accepted-requires : tie.Need-write-accepted-requires
+write-accepted-requires : tie.Need-write_accepted-requires
 write-accepted-requires c κs =
-    let m = c.before.before.before.before.before in
-    let s = m.before.before.before.args.t1 in
+    let m = c.before.before.before.before in
+    let s = m.args.search in
     let a = accepted m in
     (omega (arith, count_within s a, a.full), values_accepted s a)
 
-same_length : tie.Need-same-length
+same_length : tie.Need-shape_of-out
 same_length c = search rules
 
-returns-2 : tie.Need-returns-2
+returns-2 : tie.Need-returns
 unfolding written_of buffer_of clean_of
 returns-2 c =
     let w = c.before.before in
-    let m = w.before.before.before.before.before.before in
-    let s = m.before.before.before.args in
+    let m = w.before.before.before.before.before in
+    let s = m.args in
     let told = (accepted m).accepted in
-    let e = w.write-accepted.ensures in
-    (e.0 ∙ fitted (held_report s.t1) s.out.now (clean_of s.t1) told, (e.1 ∙ simp told, λ h. clean_sheets s.t1 (accepted m)))
+    let e = w.write_accepted.ensures in
+    (e.0 ∙ fitted (held_report s.search) s.out.now (clean_of s.search) told, (e.1 ∙ simp told, λ h. clean_sheets s.search (accepted m)))
 
 pub write_sheet_spec : {M : Type 1} → statement M
 write_sheet_spec =
     tie.close
-    (tie.spec
-    report-requires
-    enum-known-report
-    returns
-    write-accepted-requires
-    same_length
-    returns-2)
+    (tie.spec report-requires enum-known-report returns write-accepted-requires same_length returns-2)

@@ -1,6 +1,6 @@
 -- `changing::under_old_default` meets its contract: the method's number is read with 0 as M, and the others stay.
 -- Assumes nothing.
-use mathlib.Core.Path.{ap}
+use mathlib.Core.Path.{ap, ◌∙◌}
 use borrow.Author.Rules.{rules}
 use lib.IntN.{ℤ}
 use mir.Syntax.{w32}
@@ -8,20 +8,14 @@ use mir.Val.{SFits}
 use Rattle.integers.specs.Bounds.{read}
 use Rattle.rules.specs.declared.Opening.{Opening}
 use Rattle.changeover.specs.Changeover.{opening_under}
-use Rattle.changing.proofs.under_old_default.Statement.{statement}
-use Rattle.changing.proofs.under_old_default.Tie as tie
+use Rattle.changing.proofs.under_old_default.Goals as goal
 
-number-under-requires : tie.Need-number-under-requires
-number-under-requires c κs = search rules
-
-returns : tie.Need-returns
+pub returns : goal.returns
 unfolding opening_under
 returns c =
-    let o = c.before.before.args.o in
+    let o = c.args.o in
     let f : SFits w32 o.method = search rules in
+    let g : SFits w32 c.number_under.result = search rules in
     let named : ℤ → Opening =
     λ z. record { method = z; first = o.first; second = o.second; tolerance = o.tolerance; share = o.share } in
-    ap named (rw (read f) at c.number-under.ensures)
-
-pub under_old_default_spec : {M : Type 1} → statement M
-under_old_default_spec = tie.close (tie.spec number-under-requires returns)
+    ap named (read g ∙ (rw (read f) at c.number_under.ensures))
