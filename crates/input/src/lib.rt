@@ -1,7 +1,7 @@
 // The program's input: what a reader gives, as standard input, read into a buffer.
 #![tactic(auto)]
 
-ghost use Rattle.input.specs.Input.{Within};
+ghost use Rattle.input.specs.Input.{Within, Took};
 
 use std::io::Read;
 
@@ -15,7 +15,8 @@ pub enum Filled {
 
 // Reads until the buffer is full, the input ends or a read fails; a read that a signal interrupts before it moves a byte is one that failed.
 pub fn fill<R: Read>(from: &mut R, buf: &mut [u8]) -> Filled
-    ensures { Within result buf.new }
+    ensures within { Within result buf.new }
+    ensures took { Took result buf.new (R.remaining from.old) (R.remaining from.new) }
 {
     let mut done: usize = 0;
     while done < buf.len() {
