@@ -59,10 +59,8 @@ fn end_after(i: usize) -> u8 {
 }
 
 fn show_rows(to: Stdout, rows: &[u32]) {
-    let mut i = 0;
-    while i < rows.len() {
-        show_number(to, rows[i], end_after(i));
-        i += 1;
+    for (i, n) in rows.iter().enumerate() {
+        show_number(to, *n, end_after(i));
     }
 }
 
@@ -76,14 +74,12 @@ fn step_through(to: Stdout, what: &[u8], kind: u8, opening: Opening, points: &[i
     let mut search = begun.search;
     let opened = begun.report;
     show(to, what, opened);
-    let mut i = 0;
-    while i < values.len() {
+    for i in 0..values.len() {
         let entered = calls::call(kind, search, points[i], values[i]);
         let report = entered.report;
         show(to, what, report);
         let next = entered.search;
         search = next;
-        i += 1;
     }
 }
 
