@@ -4,9 +4,12 @@
 
 use replies::Reply;
 
-fn main() {
+fn main(rt: HostRuntime) {
     let mut out = [0u8; clean_sheets::LONGEST_SHEET];
     programs::run(
+        &mut rt.stdin(),
+        &mut rt.stdout(),
+        &mut rt.stderr(),
         Reply::CleanSheet,
         &mut out,
         b"clean: standard input cannot be read; give it a sheet, as in: clean < sheet.csv\n",

@@ -1,7 +1,9 @@
-// The program's input: standard input read into a buffer.
+// The program's input: what a reader gives, as standard input, read into a buffer.
 #![tactic(auto)]
 
-ghost use Rattle.input.specs.Input.{Within};
+ghost use Rattle.input.specs.Input.{Within, Took};
+
+use std::io::Read;
 
 // What was read: the buffer is full; or the input ended, after so many bytes, fewer than the buffer holds; or a read failed.
 #[derive(Clone, Copy)]
@@ -11,21 +13,18 @@ pub enum Filled {
     Failed,
 }
 
-// Reads standard input until the buffer is full, the input ends or a read fails.
-pub fn fill(buf: &mut [u8]) -> Filled
-    ensures { Within result buf.new }
+// Reads until the buffer is full, the input ends or a read fails; a read that a signal interrupts before it moves a byte is one that failed.
+pub fn fill<R: Read>(from: &mut R, buf: &mut [u8]) -> Filled
+    ensures within { Within result buf.new }
+    ensures took { Took result buf.new (R.remaining from.old) (R.remaining from.new) }
 {
     let mut done: usize = 0;
     while done < buf.len() {
-        let got = libc::read(0, &mut buf[done..]);
-        if got < 0 {
-            return Filled::Failed;
+        match from.read(&mut buf[done..]) {
+            Ok(0) => return Filled::Ended(done),
+            Ok(n) => done += n,
+            Err(_) => return Filled::Failed,
         }
-        let n = io::count(got, &buf[done..]);
-        if n == 0 {
-            return Filled::Ended(done);
-        }
-        done += n;
     }
     Filled::Full
 }

@@ -5,9 +5,12 @@
 
 use replies::Reply;
 
-fn main() {
+fn main(rt: HostRuntime) {
     let mut out = [0u8; clean_sheets::LONGEST_SHEET];
     programs::run(
+        &mut rt.stdin(),
+        &mut rt.stdout(),
+        &mut rt.stderr(),
         Reply::ChangedSheet,
         &mut out,
         b"old_default: standard input cannot be read; give it a sheet, as in: old_default < old.csv\n",

@@ -4,9 +4,12 @@
 
 use replies::Reply;
 
-fn main() {
+fn main(rt: HostRuntime) {
     let mut out = [0u8; printing::LONGEST_RECORD];
     programs::run(
+        &mut rt.stdin(),
+        &mut rt.stdout(),
+        &mut rt.stderr(),
         Reply::Record,
         &mut out,
         b"zeroin: standard input cannot be read; give it a sheet, as in: zeroin < sheet.csv\n",
