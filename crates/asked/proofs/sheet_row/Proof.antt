@@ -6,14 +6,14 @@ use Rattle.rules.specs.Rows.{row_of}
 use Rattle.asked.proofs.sheet_row.Statement.{statement}
 use Rattle.asked.proofs.sheet_row.Tie as tie
 
-brief-of-requires : tie.Need-brief-of-requires
+brief-of-requires : tie.Need-brief_of-outcome-requires
 brief-of-requires c κs = search rules
 
-row-of-requires : tie.Need-row-of-requires
+row-of-requires : tie.Need-row_of-requires
 row-of-requires c κs = search rules
 
 returns : tie.Need-returns
-returns c = c.row-of.ensures ∙ ap row_of c.before.brief-of.ensures.2
+returns c = c.row_of.ensures ∙ ap row_of c.brief_of-outcome.ensures.2
 
 pub sheet_row_spec : {M : Type 1} → statement M
 sheet_row_spec = tie.close (tie.spec brief-of-requires row-of-requires returns)

@@ -6,11 +6,11 @@ use Rattle.rules.specs.declared.Row.{Row}
 use Rattle.numbered.proofs.in_numbers.Statement.{statement}
 use Rattle.numbered.proofs.in_numbers.Tie as tie
 
-row-of-requires : tie.Need-row-of-requires
+row-of-requires : tie.Need-row_of-requires
 row-of-requires c κs = search rules
 
 returns : tie.Need-returns
-returns c = ap (λ (w : Row). record { report = w; search = c.before.before.args.e.search }) c.row-of.ensures
+returns c = ap (λ (w : Row). record { report = w; search = c.args.e.search }) c.row_of.ensures
 
 pub in_numbers_spec : {M : Type 1} → statement M
 in_numbers_spec = tie.close (tie.spec row-of-requires returns)

@@ -9,11 +9,11 @@ use Rattle.numbered.proofs.step_ask.Tie as tie
 report-requires : tie.Need-report-requires
 report-requires c κs = search rules
 
-row-of-requires : tie.Need-row-of-requires
+row-of-requires : tie.Need-row_of-requires
 row-of-requires c κs = search rules
 
 returns : tie.Need-returns
-returns c = c.row-of.ensures ∙ ap row_of c.before.report.ensures
+returns c = c.row_of.ensures ∙ ap row_of c.report.ensures
 
 pub step_ask_spec : {M : Type 1} → statement M
 step_ask_spec = tie.close (tie.spec report-requires row-of-requires returns)

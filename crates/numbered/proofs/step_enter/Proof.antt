@@ -13,25 +13,25 @@ use borrow.Author.Rules.{rules}
 use Rattle.numbered.proofs.step_enter.Statement.{statement}
 use Rattle.numbered.proofs.step_enter.Tie as tie
 
-judge-requires : tie.Need-judge-requires
+judge-requires : tie.Need-judge-v-requires
 judge-requires c κs = search rules
 
-row-of-requires : tie.Need-row-of-requires
+row-of-requires : tie.Need-row_of-requires
 row-of-requires c κs = search rules
 
-judged : (c : tie.After-judge) → c.judge.result ≡ verdict_on c.before.args.search c.before.args.point c.before.args.value
-judged c = let s = c.before in rw (to_z-of_z s.ranges.point, to_z-of_z s.ranges.value) at c.judge.ensures
+judged : (c : tie.After-judge-v) → c.judge-v.result ≡ verdict_on c.args.search c.args.point c.args.value
+judged c = let s = c.before in rw (to_z-of_z s.ranges.point, to_z-of_z s.ranges.value) at c.judge-v.ensures
 
-abbrev verdict-of : tie.After-struct-told → Verdict
-verdict-of c = c.before.before.judge.result
+abbrev verdict-of : tie.After-struct_told-1 → Verdict
+verdict-of c = c.judge-v.result
 
-numbered : (c : tie.After-struct-told)
-    → record { report = c.before.row-of.result; count = (verdict-of c).count; at = (verdict-of c).at; value = to_z w32 (of_z w32 (verdict-of c).value) }
+numbered : (c : tie.After-struct_told-1)
+    → record { report = c.row_of.result; count = (verdict-of c).count; at = (verdict-of c).at; value = to_z w32 (of_z w32 (verdict-of c).value) }
     ≡ numbered_of (verdict-of c)
 numbered c =
     let v = verdict-of c in
     let f : SFits w32 v.value = search rules in
-    ap₂ (λ (n : Row) (z : ℤ). record { report = n; count = v.count; at = v.at; value = z }) c.before.row-of.ensures (to_z-of_z f)
+    ap₂ (λ (n : Row) (z : ℤ). record { report = n; count = v.count; at = v.at; value = z }) c.row_of.ensures (to_z-of_z f)
 
 returns : tie.Need-returns
 returns c = numbered c ∙ ap numbered_of (judged c.before.before)

@@ -9,11 +9,11 @@ use Rattle.numbered.proofs.step_load.Tie as tie
 load-requires : tie.Need-load-requires
 load-requires c κs = search rules
 
-in-numbers-requires : tie.Need-in-numbers-requires
+in-numbers-requires : tie.Need-in_numbers-requires
 in-numbers-requires c κs = search rules
 
 returns : tie.Need-returns
-returns c = c.in-numbers.ensures ∙ ap answered_of c.before.load.ensures.0
+returns c = c.in_numbers.ensures ∙ ap answered_of c.load.ensures.0
 
 pub step_load_spec : {M : Type 1} → statement M
 step_load_spec = tie.close (tie.spec load-requires in-numbers-requires returns)

@@ -15,61 +15,61 @@ use Rattle.replies.proofs.write_reply.Statement.{statement}
 use Rattle.replies.proofs.write_reply.Tie as tie
 
 -- the buffer is longer than the longest text
-long : (c : tie.After-bytes) → length c.before.before.args.text.now ≡ longest_text + 1
+long : (c : tie.After-bytes-1) → length c.args.text.now ≡ longest_text + 1
 long c = search rules
 
 -- an input that ended did so within the buffer
-ended : (c : tie.After-filled) → c.filled.given.0.0 < length c.before.before.before.before.args.text.now
+ended : (c : tie.In-Ended) → c.in-Ended.n < length c.args.text.now
 ended c =
-    let start = c.before.before.before.before in
-    subst (λ (f : Filled). Within f start.args.text.now) c.filled.given.1 start.requires
+    let start = c.before.before.before in
+    subst (λ (f : Filled). Within f start.args.text.now) c.in-Ended.is start.requires
 
-enum_told : tie.Need-enum-told
+enum_told : tie.Need-enum_told-1
 enum_told c = search rules
 
-reply-to-requires : tie.Need-reply-to-requires
+reply-to-requires : tie.Need-reply_to-requires
 reply-to-requires c κs = search rules
 
-enum-known-filled : tie.Need-enum-known-filled
+enum-known-filled : tie.Need-enum_known-filled
 enum-known-filled c = search rules
 
-slice-aggregate-reply-to : tie.Need-slice-aggregate-reply-to
-slice-aggregate-reply-to c = sym (length-take-le _ _ (omega (arith, ended c.before.before)))
+slice-aggregate-reply-to : tie.Need-slice_bounds-reply_to-end
+slice-aggregate-reply-to c = sym (length-take-le _ _ (omega (arith, ended c)))
 
-reply-to-requires-2 : tie.Need-reply-to-requires-2
+reply-to-requires-2 : tie.Need-reply_to-requires-in-Ended
 reply-to-requires-2 c κs = search rules
 
-enum-told-2 : tie.Need-enum-told-2
+enum-told-2 : tie.Need-enum_told-in-Failed
 enum-told-2 c = search rules
 
-same_length : tie.Need-same-length
+same_length : tie.Need-shape_of-out-in-Full
 same_length c = search rules
 
-returns : tie.Need-returns
+returns : tie.Need-returns-in-Full
 returns c =
     let told = c.before.before.before.before in
-    let start = told.before.before.before.before in
-    let called = c.before.before.reply-to in
+    let start = told.before.before.before in
+    let called = c.reply_to in
     subst (λ (f : Filled). Answers start.args.reply f start.args.text.now start.args.out.now called.result called.new.1.1.0)
-    (sym told.enum_told.given.1)
-    (goes_on (omega (arith, long told.before.before)) called.ensures)
+    (sym told.in-Full.is)
+    (goes_on (omega (arith, long told.before)) called.ensures)
 
-same-length-2 : tie.Need-same-length-2
+same-length-2 : tie.Need-shape_of-out-in-Ended
 same-length-2 c = search rules
 
-returns-2 : tie.Need-returns-2
+returns-2 : tie.Need-returns-in-Ended
 returns-2 c =
-    let told = c.before.before.before.before.before.before in
+    let told = c.before.before.before.before in
     let start = told.before.before.before.before in
-    let called = c.before.before.reply-to2 in
+    let called = c.reply_to-in-Ended in
     subst (λ (f : Filled). Answers start.args.reply f start.args.text.now start.args.out.now called.result called.new.1.1.0)
     (sym told.filled.given.1)
     called.ensures
 
-returns-3 : tie.Need-returns-3
+returns-3 : tie.Need-returns-in-Failed
 returns-3 c =
-    let x = c.before.before.before.before.args in
-    subst (λ (f : Filled). Answers x.reply f x.text.now x.out.now 0 x.out.now) (sym c.enum-told2.given.1) (refl, refl)
+    let x = c.args in
+    subst (λ (f : Filled). Answers x.reply f x.text.now x.out.now 0 x.out.now) (sym c.in-Failed.is) (refl, refl)
 
 pub write_reply_spec : {M : Type 1} → statement M
 write_reply_spec =
