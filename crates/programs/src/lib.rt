@@ -3,7 +3,7 @@
 #![tactic(auto)]
 
 ghost use Rattle.std.specs.Prelude.{◌≡◌};
-ghost use Rattle.programs.specs.Ran.{Ran, Told};
+ghost use Rattle.programs.specs.Ran.{Ran, Made, Told};
 
 use replies::Reply;
 use std::io::{Read, Write};
@@ -28,6 +28,7 @@ pub fn run<I: Read, O: Write, E: Write>(
     unwritable: &[u8],
 ) -> Ending
     ensures ran { Ran reply out.old out.new }
+    ensures made { Made result reply (I.remaining input.old) out.old out.new }
     ensures told { Told result reply (I.remaining input.old) (O.contents output.old) (O.contents output.new) }
     ensures wordless { result ≡ Ending.Replied → error.new ≡ error.old }
 {
