@@ -13,7 +13,7 @@ bounds-search-at c =
     let s = c.args.search.now in
     let long : length s.slots ≡ slots = search rules in
     let is : c.step_enter-w.result ≡ numbered_of (verdict_on s c.args.point c.args.value) =
-        rw (to_z-of_z c.ranges.point, to_z-of_z c.ranges.value) at c.step_enter-w.ensures in
+    rw (to_z-of_z c.ranges.point, to_z-of_z c.ranges.value) at c.step_enter-w.ensures in
     rw is (stores s c.args.point c.args.value _ long refl).room
 
 pub offset_bounds-search-at : goal.offset_bounds-search-at
@@ -21,7 +21,7 @@ offset_bounds-search-at c =
     let s = c.args.search.now in
     let long : length s.slots ≡ slots = search rules in
     let is : c.step_enter-w.result ≡ numbered_of (verdict_on s c.args.point c.args.value) =
-        rw (to_z-of_z c.ranges.point, to_z-of_z c.ranges.value) at c.step_enter-w.ensures in
+    rw (to_z-of_z c.ranges.point, to_z-of_z c.ranges.value) at c.step_enter-w.ensures in
     let room : c.step_enter-w.result.at < slots = rw is (stores s c.args.point c.args.value _ long refl).room in
     search rules
 
@@ -30,7 +30,7 @@ returns c =
     let s = c.args.search.now in
     let long : length s.slots ≡ slots = search rules in
     let is : c.step_enter-w.result ≡ numbered_of (verdict_on s c.args.point c.args.value) =
-        rw (to_z-of_z c.ranges.point, to_z-of_z c.ranges.value) at c.step_enter-w.ensures in
+    rw (to_z-of_z c.ranges.point, to_z-of_z c.ranges.value) at c.step_enter-w.ensures in
     let fits : FitsSigned w32 c.step_enter-w.result.value = search rules in
     let left = stores s c.args.point c.args.value _ long refl in
     (rw is (ap row_of left.told), rw (to_z-of_z fits, is) left.left)
