@@ -54,9 +54,9 @@ extern "C" {
  * before any other call on it or on its dispatcher. Such a sheet, read as it is, may be refused, or be sent to another point: it goes through the
  * program old_default, which reads it with 0 as M and writes its clean sheet with method 1. Since version 9 there is busdekker_panel; no struct and
  * no other call has changed. Since version 10 there are busdekker_sheet_outcome and busdekker_season, with their structs; no other struct and no
- * other call has changed. Since version 11 there are busdekker_load and busdekker_draw; no struct and no other call has changed. Since version 12
- * there is busdekker_survey, with its struct, its kind and the refusals 21 and 22; no other struct and no other call has changed. */
-#define BUSDEKKER_VERSION 12
+ * other call has changed. Since version 11 there are busdekker_load and busdekker_draw; no struct and no other call has changed.
+ * busdekker_survey, with its struct, its kind and the refusals 21 and 22, stands here already; the version that has it is 12. */
+#define BUSDEKKER_VERSION 11
 
 /* The answers that a search keeps. */
 #define BUSDEKKER_SLOTS 77

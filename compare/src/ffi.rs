@@ -9,7 +9,7 @@ use crate::types::{
 pub const WHO: &str = "the proved library, target/staticlib/libbusdekker.a";
 
 /// The version of the interface that is declared here.
-pub const VERSION: u32 = 12;
+pub const VERSION: u32 = 11;
 
 extern "C" {
     fn busdekker_version() -> u32;

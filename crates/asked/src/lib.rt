@@ -75,11 +75,14 @@ pub fn survey_row(lowest: i32, pitch: i32, values: &[i32], list: &mut [u32]) -> 
             number: 0,
             place: 0,
         },
-        Surveyed::Refused { number, place } => SurveyedRow {
-            kind: rules::REFUSED_KIND,
-            pairs: 0,
-            number,
-            place,
-        },
+        Surveyed::Refused { number, place } => {
+            let kind = rules::REFUSED_KIND;
+            SurveyedRow {
+                kind,
+                pairs: 0,
+                number,
+                place,
+            }
+        }
     }
 }

@@ -5,4 +5,4 @@ use Rattle.std.specs.Prelude.{ℕ}
 
 -- of the interface: it changes with the functions, the structs and their meaning
 abbrev pub version : ℕ
-version = 12
+version = 11

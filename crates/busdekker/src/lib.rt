@@ -33,7 +33,7 @@ use surveying::SurveyedRow;
 pub extern "C" fn busdekker_version() -> u32
     ensures { result ≡ version }
 {
-    12
+    11
 }
 
 // t and the most answers that an opening may need.
