@@ -3,7 +3,8 @@
 
 ghost use Rattle.std.specs.Prelude.{◌≡◌, ◌≤◌, nat_abs};
 ghost use Rattle.rules.specs.Rules.{highest, largest_value};
-ghost use Rattle.loading.specs.Loading.{next_draw, drawn_point, drawn_second, drawn_opening, drawn_value, placed_value, values_drawn, held_part, is_seed, load_of};
+ghost use Rattle.loading.specs.Loading.{next_draw, drawn_point, drawn_second, drawn_opening, drawn_value, placed_value, values_drawn};
+ghost use Rattle.loading.specs.Loading.{held_part, is_seed, load_of};
 ghost use Rattle.loading.specs.Claims.{EveryLoad};
 
 use held::{Entered, Search};
