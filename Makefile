@@ -1,5 +1,7 @@
 # Thin targets over the toolchain, for those who type make.
 #   make                      proves and builds the archive for C, the programs, and the commands in C over it, season, load and survey, under target/
+#   make library              proves the library, and builds its archive for C, target/staticlib/libbusdekker.a
+#   make target/bin/zeroin    proves and builds the program zeroin alone; clean and old_default alike
 #   make target/bin/season    builds the season report alone, with the C compiler, on the archive that is there; nothing is proved
 #   make target/bin/load      the same for the trial load
 #   make target/bin/survey    the same for the survey of the range
@@ -11,17 +13,31 @@ DESTDIR =
 CFLAGS = -O2
 PROGRAMS = zeroin clean old_default
 COMMANDS = season load survey
+BUILT_PROGRAMS = $(PROGRAMS:%=target/bin/%)
 BUILT_COMMANDS = $(COMMANDS:%=target/bin/%)
-BUILT = $(PROGRAMS:%=target/bin/%) $(BUILT_COMMANDS)
+BUILT = $(BUILT_PROGRAMS) $(BUILT_COMMANDS)
 VERSION = $(shell sed -n 's/^.define BUSDEKKER_VERSION //p' include/busdekker.h)
 ARCHIVE = target/staticlib/libbusdekker.a
 
-.PHONY: all test install
+.PHONY: all library test install FORCE
 
 all:
-	rt staticlib busdekker
-	rt check $(PROGRAMS)
+	$(MAKE) library
+	$(MAKE) $(BUILT_PROGRAMS)
 	$(MAKE) $(BUILT_COMMANDS)
+
+library:
+	cd crates/busdekker && rt lib
+	mkdir -p target/staticlib
+	cp crates/busdekker/out/libbusdekker.a $(ARCHIVE)
+
+# `rt run` proves and builds a program, and runs it, here on an empty input.
+$(BUILT_PROGRAMS): target/bin/%: FORCE
+	cd crates/$* && rt run </dev/null >/dev/null
+	mkdir -p target/bin
+	cp crates/$*/out/$* $@
+
+FORCE:
 
 $(BUILT_COMMANDS): target/bin/%: tools/%.c tools/command.h include/busdekker.h $(ARCHIVE)
 	mkdir -p target/bin

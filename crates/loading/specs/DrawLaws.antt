@@ -5,8 +5,7 @@ use Rattle.std.proofs.Common.{sym, ap, ◌∙◌, mod-lt, div-add-mod', arith, e
 use Rattle.integers.specs.SignsLaws.{never, ne_eq_z}
 use Rattle.integers.specs.Bounds.{Within, within_neg, within_apart}
 use Rattle.rules.specs.Rules.{highest, largest_value}
-use Rattle.rules.specs.Refusals.{same_side, Accepted}
-use Rattle.rules.specs.RefusalsLaws.{inside, accepted_by}
+use Rattle.rules.specs.Refusals.{opening_refusal, outside, same_side, Accepted}
 use Rattle.forms.specs.NumberLaws.{both}
 use Rattle.loading.specs.Loading.{next_draw, draw_of, drawn_point, drawn_second, drawn_opening, load_opening}
 use Rattle.loading.specs.Loading.{drawn_value, placed_value, load_value, largest_seed, is_seed}
@@ -69,18 +68,24 @@ second_other x d h = go (eqb (drawn_point d) x) refl
     go true e f = omega (arith, div-add-mod' (x + 1) 60001)
     go false e f = never (sym (eq-eqb (drawn_point d) x (sym f)) ∙ e)
 
+inside : (low high n : ℕ) → low ≤ n → n ≤ high → outside low high (pos n) ≡ false
+inside low high n h k = simp (le-ltb n low h, le-ltb high n k)
+
 opening_accepted : (a b c d : ℕ) → Accepted (drawn_opening a b c d)
-unfolding drawn_opening
+unfolding drawn_opening opening_refusal
 opening_accepted a b c d =
     let x = drawn_point a in
     let y = drawn_second x b in
-    accepted_by (drawn_opening a b c d)
-    (inside 0 2 (1 + d % 2) (omega arith) (omega (arith, mod-lt d {m = 2} (omega arith))))
-    (inside 0 highest x (omega arith) (point_most a))
-    (inside 0 highest y (omega arith) (second_most x b))
-    (ne_eq_z (pos x) (pos y) (λ e. second_other x b (point_most a) (ap nat_abs e)))
-    (inside 1 5000 (1 + c % 5000) (omega arith) (omega (arith, mod-lt c {m = 5000} (omega arith))))
-    refl
+    record {
+      accepted =
+          simp (
+            inside 0 2 (1 + d % 2) (omega arith) (omega (arith, mod-lt d {m = 2} (omega arith))),
+            inside 0 highest x (omega arith) (point_most a),
+            inside 0 highest y (omega arith) (second_most x b),
+            ne_eq_z (pos x) (pos y) (λ e. second_other x b (point_most a) (ap nat_abs e)),
+            inside 1 5000 (1 + c % 5000) (omega arith) (omega (arith, mod-lt c {m = 5000} (omega arith))),
+          );
+    }
 
 pub accepted : (seed : ℕ) → Accepted (load_opening seed)
 unfolding load_opening

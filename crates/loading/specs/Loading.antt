@@ -1,7 +1,6 @@
 -- A trial load that anyone can repeat, request 2026-11: the draws of a seed, the opening and the values that they give, and the load.
 -- Assumes nothing.
 use Rattle.std.specs.Prelude.{ℕ, zero, suc, ◌+◌, ◌*◌, ◌%◌, Bool, cond, ◌&&◌, List, [], ◌∷◌, ◌++◌, eqb, leb, ℤ, pos, neg_ℤ, ◌-ℤ◌, length}
-use Rattle.integers.specs.Digits.{first_below}
 use Rattle.rules.specs.declared.Opening.{Opening}
 use Rattle.rules.specs.declared.Report.{Report}
 use Rattle.rules.specs.Rules.{padded}
@@ -69,6 +68,11 @@ load_values seed (suc n) = load_values seed n ++ (load_value seed n ∷ [])
 -- whether the search over the first n values has stopped
 unfoldable pub stopped_after : (seed n : ℕ) → Bool
 stopped_after seed n = stopped_at (load_opening seed) (progress_of (load_opening seed) (load_values seed n))
+
+-- the first of 0, 1, 2 .. that has a property, if one below `most` has it, and otherwise `most`
+unfoldable pub first_below : (most : ℕ) (has : ℕ → Bool) → ℕ
+first_below zero has = zero
+first_below (suc most) has = cond (has zero) zero (suc (first_below most (λ n. has (suc n))))
 
 -- how many values are drawn. Where the looking ends need not be believed: `until` in Claims says that this is the least number after which the
 -- search has stopped

@@ -1,11 +1,10 @@
 -- The laws of the parts of a load, the held searches of its first n values: where each stands so long as the search had not stopped before, how many
 -- values are drawn, and that each value is entered at the point called for.
 -- Assumes nothing.
-use Rattle.std.specs.Prelude.{ℕ, zero, suc, ◌≤◌, ◌<◌, ◌≡◌, refl, Bool, true, false, [], ◌∷◌, ltb, pos, length}
+use Rattle.std.specs.Prelude.{ℕ, zero, suc, ◌≤◌, ◌<◌, ◌≡◌, refl, Bool, true, false, cond, not, [], ◌∷◌, ltb, pos, length}
 use Rattle.std.proofs.Common.{zero-le, subst, ◌∙◌, arith, eq-eqb, ltb-true, ltb-false, length-append}
 use Rattle.std.proofs.Math.Path.{sym, ap}
 use Rattle.integers.specs.Digits.{Least}
-use Rattle.integers.specs.DigitsLaws.{first_within, first_least}
 use Rattle.integers.specs.SignsLaws.{never}
 use Rattle.rules.specs.declared.Opening.{Opening}
 use Rattle.rules.specs.declared.Bracket.{Bracket}
@@ -22,7 +21,7 @@ use Rattle.journal.specs.JournalLaws.{take_passes}
 use Rattle.journal.specs.RunLaws.{same_point, values_more}
 use Rattle.clean_sheets.specs.Clean.{called_at}
 use Rattle.clean_sheets.specs.AnswersLaws.{begins, report_next}
-use Rattle.loading.specs.Loading.{load_opening, load_value, load_values, stopped_after, values_drawn, load_part, held_part}
+use Rattle.loading.specs.Loading.{load_opening, load_value, load_values, stopped_after, first_below, values_drawn, load_part, held_part}
 use Rattle.loading.specs.Claims.{Stopped, GoesOn}
 use Rattle.loading.specs.DrawLaws.{accepted, value_ranged, second_crosses}
 
@@ -115,10 +114,34 @@ at_quote seed g = go (stopped_after seed (most_of (load_opening seed))) refl
     go true e = refl
     go false e = absurd (omega (arith, room seed (most_of (load_opening seed)) (going_more seed (most_of (load_opening seed)) g e)))
 
+-- looking below a number is enough where the property holds there unless it holds before
+first_least : (most : ℕ) (p : ℕ → Bool) → (((m : ℕ) → m < most → p m ≡ false) → p most ≡ true)
+    → Least (λ n. p n ≡ true) (first_below most p) × (first_below most p ≤ most)
+unfolding first_below
+first_least zero p h = (record { holds = h (λ m l. absurd (omega arith)); least = λ u e. zero-le }, zero-le)
+first_least (suc most) p h = go (p 0) refl (λ g. first_least most (λ n. p (suc n)) (λ f. h (g f)))
+  where
+    rest : ℕ
+    rest = first_below most (λ n. p (suc n))
+
+    below : p 0 ≡ false → ((m : ℕ) → m < most → p (suc m) ≡ false) → (m : ℕ) → m < suc most → p m ≡ false
+    below e g zero l = e
+    below e g (suc m) l = g m (omega arith)
+
+    above : p 0 ≡ false → Least (λ n. p (suc n) ≡ true) rest → (u : ℕ) → p u ≡ true → suc rest ≤ u
+    above e r zero f = never (sym f ∙ e)
+    above e r (suc u) f = omega (arith, r.least u f)
+
+    go : (b : Bool) → p 0 ≡ b
+        → ((((m : ℕ) → m < most → p (suc m) ≡ false) → (m : ℕ) → m < suc most → p m ≡ false) → Least (λ n. p (suc n) ≡ true) rest × (rest ≤ most))
+        → Least (λ n. p n ≡ true) (cond b 0 (suc rest)) × (cond b 0 (suc rest) ≤ suc most)
+    go true e k = (record { holds = e; least = λ u f. zero-le }, zero-le)
+    go false e k = let r = k (below e) in (record { holds = r.0.holds; least = above e r.0 }, omega (arith, r.1))
+
 -- the least number after which the search has stopped, and no more than the quote
 pub drawn : (seed : ℕ) → Least (λ n. stopped_after seed n ≡ true) (values_drawn seed) × (values_drawn seed ≤ most_of (load_opening seed))
 unfolding values_drawn
-drawn seed = (first_least (most_of (load_opening seed)) (stopped_after seed) (at_quote seed), first_within (most_of (load_opening seed)) (stopped_after seed))
+drawn seed = first_least (most_of (load_opening seed)) (stopped_after seed) (at_quote seed)
 
 pub most_fits : (seed : ℕ) → most_of (load_opening seed) ≤ slots
 most_fits seed = most_slots (load_opening seed) (opened (load_opening seed) (accepted seed))
@@ -168,8 +191,7 @@ unfolding report_at bracket_report
 bracket_stopped o k n s e =
     record { lower = lower_of k; upper = upper_of k; better = k.better.point; told = simp s (ap (Report.Stop (lower_of k) (upper_of k) k.better.point) e) }
 
-stage_stopped : (seed n : ℕ) (p : Progress) → Stage seed n p → CountedAt n p → stopped_at (load_opening seed) p ≡ true
-    → Stopped n (report_at (load_opening seed) p)
+stage_stopped : (seed n : ℕ) (p : Progress) → Stage seed n p → CountedAt n p → stopped_at (load_opening seed) p ≡ true → Stopped n (report_at (load_opening seed) p)
 stage_stopped seed zero p e c s = never (sym (rw e at s))
 stage_stopped seed (suc zero) p e c s = never (sym (rw e at s))
 stage_stopped seed (suc (suc n)) p e c s =

@@ -7,13 +7,12 @@ use mathlib.Core.List.{List, [], ◌∷◌, ◌++◌, map, zip_with}
 use native.Mathlib.Omega.{arith}
 use Rattle.std.proofs.lemmas.Bool.{eqb-false}
 use Rattle.std.proofs.Math.ListN.{length}
-use Rattle.integers.specs.Lists.{filter}
 use Rattle.integers.specs.SignsLaws.{never}
 use Rattle.seasons.specs.declared.Outcome.{Outcome}
 use Rattle.seasons.specs.declared.Tally.{Tally}
 use Rattle.seasons.specs.declared.Counted.{Counted}
 use Rattle.seasons.specs.declared.Season.{Season}
-use Rattle.seasons.specs.Season.{outcomes_of, has_stopped, is_unfinished, was_refused, other, booked_as, sum, tally_of, booked_under, tallies_of}
+use Rattle.seasons.specs.Season.{outcomes_of, has_stopped, is_unfinished, was_refused, other, booked_as, filter, sum, tally_of, booked_under, tallies_of}
 use Rattle.seasons.specs.Season.{misshapen, no_tally, refused_season, season_on, season_of}
 use Rattle.seasons.specs.Claims.{written, Reordered, added, one_more_refused, counted_in, Together, EverySeason}
 use Rattle.seasons.specs.ListLaws.{taken_out, length_reordered}

@@ -1,7 +1,6 @@
 -- Season reports and outcomes of sheets worked by hand, in lists with one statement each. All hold by computation.
 -- Assumes nothing.
 use Rattle.std.specs.Prelude.{ℕ, ◌≡◌, refl, Bool, true, false, List, [], ◌∷◌, ◌++◌, replicate}
-use Rattle.integers.specs.Lists.{filter}
 use Rattle.integers.specs.Digits.{halvings, digits}
 use Rattle.rules.specs.Rules.{method_of, tolerance_at, start_of, stopped_of, forward_of, displacement_of, linear_of, cross_of, rational_of}
 use Rattle.rules.specs.Rules.{doubled_of, opposed, partner_of, streak_of, renewed_of, advance_of, step_of, reach_of, offset_of, next_of}
@@ -16,7 +15,7 @@ use Rattle.seasons.specs.declared.Outcome.{Outcome}
 use Rattle.seasons.specs.declared.Tally.{Tally}
 use Rattle.seasons.specs.declared.Counted.{Counted}
 use Rattle.seasons.specs.declared.Season.{Season}
-use Rattle.seasons.specs.Season.{outcomes_of, sum, maximum, tally_of, tallies_of, misshapen, no_tally, season_of, season_row_of}
+use Rattle.seasons.specs.Season.{outcomes_of, filter, sum, maximum, tally_of, tallies_of, misshapen, no_tally, season_of, season_row_of}
 use Rattle.seasons.specs.Sheets.{method_number, method_written, sheet_outcome}
 use Rattle.seasons.specs.Claims.{Reordered, behind, swapped, again}
 

@@ -2,12 +2,25 @@
 -- Assumes nothing.
 use Rattle.std.specs.Prelude.{ℕ, suc, ◌+◌, max, ◌≡◌, refl, Bool, true, false, cond, List, [], ◌∷◌, ◌++◌, map, length}
 use Rattle.std.proofs.Common.{ap, ◌∙◌, arith}
-use Rattle.integers.specs.Lists.{filter}
 use Rattle.seasons.specs.declared.Outcome.{Outcome}
-use Rattle.seasons.specs.Season.{sum, maximum}
+use Rattle.seasons.specs.Season.{filter, sum, maximum}
 use Rattle.seasons.specs.Claims.{Reordered, none, behind, swapped, again}
 
 -- ---- joined
+
+pub filter_append : (test : Outcome → Bool) (os ps : List Outcome) → filter test (os ++ ps) ≡ filter test os ++ filter test ps
+unfolding filter
+filter_append test [] ps = refl
+filter_append test (o ∷ os) ps = go (test o) (filter_append test os ps)
+  where
+    go : (b : Bool) → filter test (os ++ ps) ≡ filter test os ++ filter test ps
+        → cond b (o ∷ filter test (os ++ ps)) (filter test (os ++ ps)) ≡ cond b (o ∷ filter test os) (filter test os) ++ filter test ps
+    go true e = ap (λ (l : List Outcome). o ∷ l) e
+    go false e = e
+
+pub map_append : {A B : Type 0} (f : A → B) (xs ys : List A) → map f (xs ++ ys) ≡ map f xs ++ map f ys
+map_append f [] ys = refl
+map_append {B = B} f (x ∷ xs) ys = ap (λ (l : List B). f x ∷ l) (map_append f xs ys)
 
 pub sum_append : (ns ms : List ℕ) → sum (ns ++ ms) ≡ sum ns + sum ms
 unfolding sum

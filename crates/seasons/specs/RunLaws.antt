@@ -7,12 +7,11 @@ use Rattle.std.proofs.Math.Path.{ap}
 use Rattle.std.proofs.Math.Nat.{add-zero, max-le, max-zero}
 use native.Mathlib.Omega.{arith}
 use borrow.Author.Tests.{eqb-true, ltb-false, le-ltb, ne_eqb, eq-eqb}
-use Rattle.integers.specs.Lists.{filter}
 use Rattle.integers.specs.SignsLaws.{never}
 use Rattle.seasons.specs.declared.Outcome.{Outcome}
 use Rattle.seasons.specs.declared.Tally.{Tally}
 use Rattle.seasons.specs.declared.Counted.{Counted}
-use Rattle.seasons.specs.Season.{outcomes_of, booked_as, sum, maximum, tally_of, tallies_of}
+use Rattle.seasons.specs.Season.{outcomes_of, booked_as, filter, sum, maximum, tally_of, tallies_of}
 use Rattle.seasons.specs.Season.{most_outcomes, misshapen, no_tally, refused_season, season_on, season_of}
 use Rattle.seasons.specs.Claims.{written, added}
 use Rattle.seasons.specs.Inner.{outcome_at, largest_number, Bounded}

@@ -1,7 +1,6 @@
 -- The season report, request 2026-10: for each method plain counts, sums and maxima over the outcomes of a run.
 -- Assumes nothing.
 use Rattle.std.specs.Prelude.{ℕ, ◌+◌, ◌*◌, ◌%◌, min, max, Bool, cond, not, ◌||◌, List, [], ◌∷◌, map, ltb, eqb, length, replicate}
-use Rattle.integers.specs.Lists.{filter}
 use Rattle.rules.specs.Rows.{refused_kind, season_kind}
 use Rattle.seasons.specs.declared.Outcome.{Outcome}
 use Rattle.seasons.specs.declared.Tally.{Tally}
@@ -46,6 +45,11 @@ abbrev pub booked_as : Outcome → ℕ
 booked_as o = min o.method other
 
 -- ---- lists
+
+-- those that pass a test, in their order
+unfoldable pub filter : (Outcome → Bool) → List Outcome → List Outcome
+filter test [] = []
+filter test (o ∷ os) = cond (test o) (o ∷ filter test os) (filter test os)
 
 unfoldable pub sum : List ℕ → ℕ
 sum [] = 0

@@ -4,16 +4,14 @@ use Prim.Native.Nat.{ℕ, zero, suc, ◌+◌, ◌≤◌, max}
 use Rattle.std.specs.Prelude.{◌≡◌, Bool, cond, length, get_or, set}
 use Rattle.std.proofs.Math.Path.{ap}
 use Rattle.std.proofs.Common.{◌∙◌, arith, length-append}
-use mathlib.Core.List.{List, [], ◌∷◌, ◌++◌, map, zip_with, append-nil, map-append}
+use mathlib.Core.List.{List, [], ◌∷◌, ◌++◌, map, zip_with, append-nil}
 use Rattle.std.proofs.Math.Dec.{eqb}
-use Rattle.integers.specs.Lists.{filter}
-use Rattle.integers.specs.ListsLaws.{filter_append}
 use Rattle.seasons.specs.declared.Outcome.{Outcome}
 use Rattle.seasons.specs.declared.Tally.{Tally}
-use Rattle.seasons.specs.Season.{has_stopped, is_unfinished, not_refused, was_refused, other, booked_as, sum, maximum, tally_of, booked_under}
+use Rattle.seasons.specs.Season.{has_stopped, is_unfinished, not_refused, was_refused, other, booked_as, filter, sum, maximum, tally_of, booked_under}
 use Rattle.seasons.specs.Season.{tallies_of, no_tally}
 use Rattle.seasons.specs.Claims.{Reordered, added}
-use Rattle.seasons.specs.ListLaws.{sum_append, maximum_append, filter_reordered, map_reordered, length_reordered}
+use Rattle.seasons.specs.ListLaws.{filter_append, map_append, sum_append, maximum_append, filter_reordered, map_reordered, length_reordered}
 use Rattle.seasons.specs.ListLaws.{sum_reordered, maximum_reordered}
 
 -- ---- joined
@@ -24,7 +22,7 @@ module _ (test : Outcome → Bool) (os ps : List Outcome) where
 
   module _ (f : Outcome → ℕ) where
     numbers_append : map f (filter test (os ++ ps)) ≡ map f (filter test os) ++ map f (filter test ps)
-    numbers_append = ap (map f) (filter_append test os ps) ∙ map-append f (filter test os) (filter test ps)
+    numbers_append = ap (map f) (filter_append test os ps) ∙ map_append f (filter test os) (filter test ps)
 
     total_append : sum (map f (filter test (os ++ ps))) ≡ sum (map f (filter test os)) + sum (map f (filter test ps))
     total_append = ap sum numbers_append ∙ sum_append (map f (filter test os)) (map f (filter test ps))

@@ -3,7 +3,6 @@
 use Rattle.std.specs.Prelude.{ℕ, ◌≤◌, ◌≡◌, refl, Bool, true, false, cond, List, [], ◌∷◌, map, eqb, ltb, ℤ, pos, nat_abs, length}
 use Rattle.std.proofs.Common.{sym, ap, ◌∙◌, arith, eqb-true, eq-eqb}
 use Rattle.std.proofs.Math.Nat.{max-le}
-use Rattle.integers.specs.Lists.{filter}
 use Rattle.integers.specs.SignsLaws.{never}
 use Rattle.rules.specs.declared.Opening.{Opening}
 use Rattle.rules.specs.declared.Bracket.{Bracket}
@@ -28,7 +27,7 @@ use Rattle.clean_sheets.specs.Clean.{rewritten_of}
 use Rattle.journal.specs.SpellingLaws.{reading}
 use Rattle.clean_sheets.specs.ClaimsHold.{form_read, passed, opening_held, rewritten}
 use Rattle.seasons.specs.declared.Outcome.{Outcome}
-use Rattle.seasons.specs.Season.{other, not_refused, was_refused, booked_as, sum, maximum, tally_of, booked_under}
+use Rattle.seasons.specs.Season.{other, not_refused, was_refused, booked_as, filter, sum, maximum, tally_of, booked_under}
 use Rattle.seasons.specs.Sheets.{method_number, method_in, method_of_first, method_written, most_quoted, outcome_by, sheet_outcome}
 use Rattle.seasons.specs.Claims.{SheetClaim, EverySheet}
 
