@@ -232,9 +232,9 @@ pub extern "C" fn busdekker_dispatch_enter(
     ensures { (result ≡ row_of (answer_at dispatcher.old dryer answer).report)
         × (dispatcher.new ≡ (answer_at dispatcher.old dryer answer).dispatcher) }
 {
-    let e = dispatch_numbers::step_enter(*dispatcher, dryer, answer);
+    let e = dispatch::enter(*dispatcher, dryer, answer);
     *dispatcher = e.dispatcher;
-    e.report
+    rows::row_of(e.report)
 }
 
 // The report of the search at a dryer of the host's dispatcher.
