@@ -1,12 +1,13 @@
 -- `load::placed_value` meets its contract: a value in range can be negated.
 -- Assumes nothing.
-use Rattle.std.proofs.Common.{◌≡◌, sym, ◌∙◌, ◌≤◌, eq-eqb, ne_eqb}
+use Rattle.std.proofs.Common.{◌≡◌, sym, ap₂, ◌∙◌, ◌≤◌, eq-eqb, ne_eqb}
 use Rattle.std.proofs.Math.IntN.{ℤ, pos, nat_abs, neg_ℤ, ◌-ℤ◌}
 use mir.Syntax.{w32}
 use mir.Val.{SFits, to_z, of_z}
 use mir.Facts.{to_z-of_z}
 use Rattle.integers.specs.Bounds.{read, zero_sub, within_neg, within_fits}
 use Rattle.rules.specs.Rules.{largest_value}
+use Rattle.rules.specs.Refusals.{same_side}
 use Rattle.loading.specs.Loading.{placed_value}
 use Rattle.load.proofs.placed_value.Goals as goal
 
@@ -23,11 +24,11 @@ returns-then-place-ne1 c = rw (read c.ranges.v, ne_eqb c.args.place 1 c.if-place
 pub returns-then-same_side : goal.returns-then-same_side
 unfolding placed_value
 returns-then-same_side c =
-    let same = rw (read c.ranges.u, read c.ranges.v) at c.same_side.ensures in
+    let same = c.same_side.ensures ∙ ap₂ same_side (read c.ranges.u) (read c.ranges.v) in
     negated c.ranges.v c.requires ∙ sym (simp (eq-eqb c.args.place 1 c.if-place-ne1.false, sym same ∙ c.if-same_side.true))
 
 pub returns : goal.returns
 unfolding placed_value
 returns c =
-    let same = rw (read c.ranges.u, read c.ranges.v) at c.same_side.ensures in
+    let same = c.same_side.ensures ∙ ap₂ same_side (read c.ranges.u) (read c.ranges.v) in
     read c.ranges.v ∙ sym (simp (eq-eqb c.args.place 1 c.if-place-ne1.false, sym same ∙ c.if-same_side.false))
