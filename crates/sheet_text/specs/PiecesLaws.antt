@@ -1,7 +1,8 @@
 -- The laws of the pieces: a number by its sign, a sheet as its records, and texts put into a buffer one behind the other.
 -- Assumes nothing.
 use Rattle.std.specs.Prelude.{ℕ, ◌+◌, ◌≤◌, ◌<◌, ◌≡◌, refl, Bool, true, false, cond, List, [], ◌∷◌, ◌++◌, ℤ, pos, negsuc, nat_abs, length, take, drop, set}
-use Rattle.std.proofs.Common.{sym, ap, ap₂, ◌∙◌, append_assoc, add-zero, zero-add, add-one, arith, ltb-true, length-append, length-drop, length-take-le, take_at, drop_at, drop-drop}
+use Rattle.std.proofs.Common.{sym, ap, ap₂, ◌∙◌, arith, append_assoc, add-zero, zero-add, add-one, ltb-true}
+use Rattle.std.proofs.Common.{length-append, length-drop, length-take-le, take_at, drop_at, drop-drop}
 use Rattle.std.proofs.Math.Seq.{take-append_seam, append_snoc, paste-zero}
 use Rattle.std.proofs.lemmas.List.{set_split}
 use Rattle.std.specs.Int.Signed.{lt_z}
