@@ -6,7 +6,7 @@ use Rattle.integers.specs.Signs.{eq_z}
 use Rattle.rules.specs.declared.Opening.{Opening}
 use Rattle.rules.specs.declared.Progress.{Progress}
 use Rattle.rules.specs.Search.{is_refused, other_at, take_of, progress_of, answers_of}
-use Rattle.rules.specs.SearchLaws.{SoundAt}
+use Rattle.rules.proofs.SearchLaws.{SoundAt}
 
 -- the value of answer i: one of vs, and then of ts
 unfoldable pub value_at : List ℤ → List ℤ → ℕ → ℤ

@@ -10,7 +10,7 @@ use borrow.Author.Tests.{ltb-true, ltb-false, eq-eqb, ne_eqb}
 use Rattle.std.proofs.Math.Dec.{ltb}
 use Rattle.std.proofs.Math.ListN.{length, get_or, drop_of_length-le, get_or-append}
 use Rattle.std.proofs.Math.Seq.{drop-cons}
-use Rattle.integers.specs.SignsLaws.{never}
+use Rattle.integers.proofs.SignsLaws.{never}
 use Rattle.rules.specs.declared.Opening.{Opening}
 use Rattle.rules.specs.declared.Bracket.{Bracket}
 use Rattle.rules.specs.declared.Progress.{Progress}
@@ -19,7 +19,7 @@ use Rattle.rules.specs.Rules.{lower_of, upper_of, stopped_of, next_of}
 use Rattle.rules.specs.Refusals.{opening_refusal, answer_refusal, too_large}
 use Rattle.rules.specs.Search.{is_refused, stopped_at, same_side_at, taken_of, entered_at, answered_at, begin_of, offer_of, take_of, progress_of}
 use Rattle.rules.specs.Search.{answers_of, bracket_report, report_at}
-use Rattle.rules.specs.SearchLaws.{sound_begin, sound_offer, refused_stays, answers_stay, taken_is, accepted_more}
+use Rattle.rules.proofs.SearchLaws.{sound_begin, sound_offer, refused_stays, answers_stay, taken_is, accepted_more}
 use Rattle.answers.specs.Answers.{value_at, other_than, other_from, onward_of, Led, Ended}
 
 -- a search that is not refused tries the answer

@@ -3,8 +3,8 @@
 use Rattle.std.proofs.Common.{arith}
 use Rattle.rules.specs.declared.Opening.{Opening}
 use Rattle.rules.specs.declared.Bracket.{Bracket}
-use Rattle.rules.specs.RefusalsLaws.{Opened}
-use Rattle.rules.specs.SearchLaws.{Sound, most_slots}
+use Rattle.rules.proofs.RefusalsLaws.{Opened}
+use Rattle.rules.proofs.SearchLaws.{Sound, most_slots}
 use Rattle.brackets.specs.Countable.{Countable}
 
 pub countable : {o : Opening} {k : Bracket} → Opened o → Sound o k → Countable k

@@ -1,7 +1,4 @@
--- What must be believed stands in Changeover and Claims, which hold no proofs; Examples works them by hand. The claims are proved in
--- ClaimsHold.
+-- What must be believed stands in Changeover and Claims, which hold no proofs; Examples, in proofs/, works them by hand. The claims are proved in
+-- ClaimsHold, in proofs/ too.
 pub mod Changeover
 pub mod Claims
-pub mod UnderLaws
-pub mod ClaimsHold
-mod Examples

@@ -1,9 +1,4 @@
--- What must be believed stands in Clean and Claims, which hold no proofs; Examples works them by hand. The claims are proved in
--- ClaimsHold.
+-- What must be believed stands in Clean and Claims, which hold no proofs; Examples, in proofs/, works them by hand. The claims are proved in
+-- ClaimsHold, in proofs/ too.
 pub mod Clean
 pub mod Claims
-pub mod TextLaws
-pub mod AnswersLaws
-pub mod LengthLaws
-pub mod ClaimsHold
-mod Examples

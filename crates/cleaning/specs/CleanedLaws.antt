@@ -3,7 +3,7 @@
 use Rattle.std.specs.Prelude.{ℕ, ◌≤◌, ◌≡◌, refl, Bool, true, false, cond, List, ltb, length}
 use Rattle.std.proofs.Common.{sym, ap, subst, ◌∙◌, arith, ltb-true, ltb-false, le-leb}
 use Rattle.std.proofs.lemmas.Bool.{lt-leb}
-use Rattle.integers.specs.SignsLaws.{never}
+use Rattle.integers.proofs.SignsLaws.{never}
 use Rattle.rules.specs.declared.Report.{Report}
 use Rattle.rules.specs.Search.{is_refusal}
 use Rattle.held.specs.declared.Search.{Search}
@@ -13,7 +13,7 @@ use Rattle.printing.specs.Printed.{record_of, longest_record, placed, placed_len
 use Rattle.outcomes.specs.Sheet.{sheet_of}
 use Rattle.clean_sheets.specs.declared.Written.{Written}
 use Rattle.clean_sheets.specs.Clean.{clean_of, longest_sheet, buffer_too_short, whole_buffer, fitted_in, written_after, written_of, buffer_of, cleaned_of}
-use Rattle.clean_sheets.specs.ClaimsHold.{accepted_cleaned, search_accepted, rewritten}
+use Rattle.clean_sheets.proofs.ClaimsHold.{accepted_cleaned, search_accepted, rewritten}
 use Rattle.cleaning.specs.Cleaned.{length_told, outcome_length, outcome_left}
 
 -- ---- what the writer tells and leaves of an accepted search

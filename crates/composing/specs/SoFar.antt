@@ -9,9 +9,9 @@ use Rattle.rules.specs.declared.Opening.{Opening}
 use Rattle.rules.specs.declared.Progress.{Progress}
 use Rattle.rules.specs.declared.Report.{Report}
 use Rattle.rules.specs.Search.{is_refused, begin_of, take_of, progress_of, report_of}
-use Rattle.rules.specs.SearchLaws.{progress_more}
+use Rattle.rules.proofs.SearchLaws.{progress_more}
 use Rattle.clean_sheets.specs.Clean.{called_at, with_points, answers_text, sheet_text}
-use Rattle.clean_sheets.specs.AnswersLaws.{report_before}
+use Rattle.clean_sheets.proofs.AnswersLaws.{report_before}
 use Rattle.sheet_text.specs.Pieces.{opening_text, answer_text, Puts}
 use Rattle.sheet_text.specs.PiecesLaws.{sheet_records, answer_record, same_size, puts_none, puts_more, in_words}
 

@@ -5,12 +5,12 @@ use Prim.Native.Nat.{ℕ, zero, suc, ◌+◌, ◌≤◌, ◌<◌}
 use Rattle.std.specs.Prelude.{◌≡◌, List, ◌∷◌, ℤ, length, drop}
 use Rattle.std.proofs.Math.Path.{refl, ap}
 use native.Mathlib.Omega.{arith}
-use Rattle.rules.specs.RowsLaws.{InTurn}
-use Rattle.rules.specs.RowsLaws as Rows
+use Rattle.rules.proofs.RowsLaws.{InTurn}
+use Rattle.rules.proofs.RowsLaws as Rows
 use Rattle.dispatching.specs.declared.Dispatcher.{Dispatcher}
 use Rattle.dispatching.specs.Dispatching.{dryers}
 use Rattle.dispatching.specs.Calls.{Call, call_of, dispatcher_after, reports_of}
-use Rattle.dispatching.specs.RunHolds.{run}
+use Rattle.dispatching.proofs.RunHolds.{run}
 use Rattle.dispatch_calls.specs.Listed.{call_at, how_many, Before, CallMade}
 use Rattle.dispatch_runs.specs.Runs.{calls_from, calls_in, DispatcherRuns}
 

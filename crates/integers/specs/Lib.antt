@@ -1,9 +1,4 @@
--- The definitions are Signs, Digits and Lists. The others are laws.
+-- The definitions are Signs, Digits and Lists. The laws are in proofs/.
 pub mod Signs
 pub mod Digits
 pub mod Lists
-pub mod SignsLaws
-pub mod DigitsLaws
-pub mod ListsLaws
-pub mod Bounds
-pub mod Formulas

@@ -3,8 +3,8 @@
 use Prim.Native.Nat.{ℕ, ◌≤◌}
 use mir.Syntax.{w32}
 use mir.Val.{SFits}
-use Rattle.integers.specs.Bounds.{within_fits, within_difference}
-use Rattle.integers.specs.Formulas.{Formula, wide, nat, sub, tight}
+use Rattle.integers.proofs.Bounds.{within_fits, within_difference}
+use Rattle.integers.proofs.Formulas.{Formula, wide, nat, sub, tight}
 use Rattle.rules.specs.declared.Sample.{Sample}
 use Rattle.interpolation.specs.Ranges.{widest, Measured}
 

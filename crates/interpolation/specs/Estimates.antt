@@ -3,7 +3,7 @@
 -- Assumes nothing.
 use Rattle.std.specs.Prelude.{ℕ, ◌≡◌, refl, Bool, cond, ℤ, pos, neg_ℤ, ◌-ℤ◌, ◌*ℤ◌}
 use Rattle.integers.specs.Signs.{eq_z}
-use Rattle.integers.specs.SignsLaws.{eq_z_difference}
+use Rattle.integers.proofs.SignsLaws.{eq_z_difference}
 use Rattle.rules.specs.Rules.{at_better, no_estimate, toward, linear_of, cross_of, rational_of}
 use Rattle.rules.specs.declared.Sample.{Sample}
 use Rattle.rules.specs.declared.Fraction.{Fraction}

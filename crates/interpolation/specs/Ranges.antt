@@ -1,7 +1,7 @@
 -- The ranges that the arithmetic is proved for: wider than the points of an opening, so that a wider scale of points costs no proof here.
 -- Assumes nothing.
 use Rattle.std.specs.Prelude.{ℕ, ◌+◌, ◌*◌, ◌≤◌}
-use Rattle.integers.specs.Bounds.{Within}
+use Rattle.integers.proofs.Bounds.{Within}
 use Rattle.rules.specs.Rules.{largest_value}
 use Rattle.rules.specs.declared.Sample.{Sample}
 use Rattle.rules.specs.declared.Fraction.{Fraction}

@@ -3,7 +3,7 @@
 #![tactic(auto)]
 
 ghost use Rattle.std.specs.Prelude.{◌≡◌, ◌≤◌, ◌*◌, pos, ◌<ℤ◌};
-ghost use Rattle.integers.specs.Bounds.{Within};
+ghost use Rattle.integers.proofs.Bounds.{Within};
 ghost use Rattle.rules.specs.Rules.{linear_of, cross_of, rational_of, doubled_of, forward_of, displacement_of};
 ghost use Rattle.interpolation.specs.Ranges.{widest, Measured, most_cross, most_num, most_den, Small};
 ghost use Rattle.interpolation.specs.Estimates.{estimate_of};

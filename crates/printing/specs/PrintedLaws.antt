@@ -3,7 +3,7 @@
 use Rattle.std.specs.Prelude.{ℕ, ◌+◌, ◌*◌, ◌^◌, ◌≤◌, ◌<◌, ◌≡◌, refl, Bool, true, false, cond, List, ◌++◌, leb, length, drop}
 use Rattle.std.proofs.Common.{arith, length-append, length-drop, leb-true}
 use Rattle.lines.specs.Decimal.{number_fields}
-use Rattle.lines.specs.DecimalLaws.{Each, fields_length}
+use Rattle.lines.proofs.DecimalLaws.{Each, fields_length}
 use Rattle.printing.specs.Printed.{record_with, longest_record, placed, placed_length}
 
 -- ---- records

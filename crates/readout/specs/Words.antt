@@ -7,7 +7,7 @@ use Rattle.std.proofs.Math.Seq.{append_snoc}
 use Rattle.registers.specs.Registers.{register_count}
 use Rattle.registers.specs.Exchange.{read_holding, address_of, quantity_of, word_bytes, part_of, read_reply, longest_reply}
 use Rattle.registers.specs.Inner.{Readable}
-use Rattle.registers.specs.ExchangeLaws.{part_length}
+use Rattle.registers.proofs.ExchangeLaws.{part_length}
 use Rattle.modbus.specs.declared.Reply.{Reply}
 use Rattle.modbus.specs.Reply.{Holds}
 

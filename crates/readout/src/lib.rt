@@ -3,7 +3,7 @@
 #![tactic(auto)]
 
 ghost use Rattle.std.specs.Prelude.{◌≡◌, ◌+◌, ◌*◌, ◌≤◌, length};
-ghost use Rattle.held.specs.HeldLaws.{WithinLimits};
+ghost use Rattle.held.proofs.HeldLaws.{WithinLimits};
 ghost use Rattle.registers.specs.Registers.{registers_at};
 ghost use Rattle.registers.specs.Exchange.{read_reply, longest_reply};
 ghost use Rattle.registers.specs.Inner.{read_told, Readable};

@@ -6,7 +6,7 @@ use native.Mathlib.Omega.{arith}
 use borrow.Author.Tests.{ltb-true, le-ltb}
 use lib.IntN.{ℤ, pos, negsuc}
 use lib.Signed.{lt_z}
-use Rattle.integers.specs.SignsLaws.{never}
+use Rattle.integers.proofs.SignsLaws.{never}
 use Rattle.rules.specs.Refusals.{same_side}
 
 -- ---- the side of the second value, by the sign of the first

@@ -7,8 +7,8 @@ use Rattle.std.proofs.Math.Path.{ap}
 use Rattle.std.proofs.Math.Seq.{sets}
 use Rattle.rules.specs.declared.Answer.{Answer}
 use Rattle.rules.specs.Rows.{row_of, row_numbers, numbers_each}
-use Rattle.rules.specs.RowsLaws.{InTurn}
-use Rattle.rules.specs.RowsLaws as Rows
+use Rattle.rules.proofs.RowsLaws.{InTurn}
+use Rattle.rules.proofs.RowsLaws as Rows
 use Rattle.held.specs.declared.Search.{Search}
 use Rattle.held.specs.declared.Entered.{Entered}
 use Rattle.held.specs.Held.{enter_of}

@@ -8,7 +8,7 @@ use Rattle.std.proofs.Math.Bool.{true, false}
 use mathlib.Core.List.{List, []}
 use borrow.Author.Tests.{eqb-true, eq-eqb}
 use Rattle.std.proofs.Math.Dec.{eqb}
-use Rattle.integers.specs.SignsLaws.{never}
+use Rattle.integers.proofs.SignsLaws.{never}
 use Rattle.rules.specs.declared.Opening.{Opening}
 use Rattle.rules.specs.declared.Report.{Report}
 use Rattle.rules.specs.Refusals.{opening_refusal, Accepted}
@@ -19,7 +19,7 @@ use Rattle.held.specs.declared.Entered.{Entered}
 use Rattle.held.specs.Held.{fresh_of, reopen_of, open_of}
 use Rattle.journal.specs.Journal.{point_called, journal_report}
 use Rattle.journal.specs.Run.{Call, search_after, reports_of}
-use Rattle.journal.specs.RunHolds.{run}
+use Rattle.journal.proofs.RunHolds.{run}
 use Rattle.replay.specs.Replay.{calls_in, replay_of, list_after, Replays}
 use Rattle.replay.specs.Calls.{CallsMade}
 

@@ -8,15 +8,15 @@ use borrow.Author.Tests.{eq-eqb}
 use lib.Count.{count_leading_zeros, leading_length}
 use lib.Pow.{pow_mono}
 use Rattle.integers.specs.Digits.{digits}
-use Rattle.integers.specs.DigitsLaws.{digits_least}
+use Rattle.integers.proofs.DigitsLaws.{digits_least}
 use Rattle.rules.specs.declared.Opening.{Opening}
 use Rattle.rules.specs.declared.Method.{Method}
 use Rattle.rules.specs.declared.Quote.{Quote}
 use Rattle.rules.specs.Rules.{slots, method_of, allowed}
 use Rattle.rules.specs.Refusals.{opening_refusal}
-use Rattle.rules.specs.RefusalsLaws.{Opened}
+use Rattle.rules.proofs.RefusalsLaws.{Opened}
 use Rattle.rules.specs.Search.{tOf, quote_of}
-use Rattle.rules.specs.SearchLaws.{most_slots}
+use Rattle.rules.proofs.SearchLaws.{most_slots}
 
 -- ---- the leading zeros of a number and its binary digits make 32
 

@@ -7,7 +7,7 @@ ghost use Rattle.rules.specs.Refusals.{opening_refusal};
 ghost use Rattle.rules.specs.Search.{answers_of, report_at};
 ghost use Rattle.rules.specs.declared.Progress.TheVariants.{Begun};
 ghost use Rattle.outcomes.specs.Sheet.{refused_at, judged};
-ghost use Rattle.outcomes.specs.SheetLaws.{settled_by, Below};
+ghost use Rattle.outcomes.proofs.SheetLaws.{settled_by, Below};
 
 use forms::{Entries, Form};
 use held::{Entered, Search};

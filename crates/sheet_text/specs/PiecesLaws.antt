@@ -7,7 +7,7 @@ use Rattle.std.proofs.Math.Seq.{take-append_seam, append_snoc, paste-zero}
 use Rattle.std.proofs.lemmas.List.{set_split}
 use Rattle.std.specs.Int.Signed.{lt_z}
 use Rattle.integers.specs.Signs.{eq_z}
-use Rattle.integers.specs.SignsLaws.{never}
+use Rattle.integers.proofs.SignsLaws.{never}
 use Rattle.rules.specs.declared.Opening.{Opening}
 use Rattle.rules.specs.declared.Answer.{Answer}
 use Rattle.forms.specs.Bytes.{cr, lf, comma, minus}

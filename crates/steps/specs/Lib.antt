@@ -1,3 +1,2 @@
 -- The modules of `specs/`.
 pub mod Ready
-pub mod ReadyLaws

@@ -5,8 +5,8 @@ use Rattle.rules.specs.declared.Opening.{Opening}
 use Rattle.rules.specs.declared.Bracket.{Bracket}
 use Rattle.interpolation.specs.Ranges.{widest, Measured}
 use Rattle.rules.specs.Rules.{stopped_of, width_of}
-use Rattle.rules.specs.RefusalsLaws.{Opened}
-use Rattle.rules.specs.SearchLaws.{Sound}
+use Rattle.rules.proofs.RefusalsLaws.{Opened}
+use Rattle.rules.proofs.SearchLaws.{Sound}
 
 -- its points and values are in the range of the estimates
 pub record Surveyed (k : Bracket) : Type 0 where

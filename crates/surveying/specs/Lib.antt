@@ -1,6 +1,3 @@
--- What must be believed stands in Survey and Claims, which hold no proofs; Examples works them by hand. The claims are proved in ClaimsHold.
+-- What must be believed stands in Survey and Claims, which hold no proofs; Examples, in proofs/, works them by hand. The claims are proved in ClaimsHold, in proofs/ too.
 pub mod Survey
 pub mod Claims
-mod Examples
-pub mod SurveyLaws
-pub mod ClaimsHold

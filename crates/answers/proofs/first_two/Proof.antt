@@ -9,7 +9,7 @@ use lib.IntN.{ℤ, nat_abs}
 use lib.ListN.{length}
 use mir.Syntax.{w32}
 use mir.Val.{SFits, to_z, of_z}
-use Rattle.integers.specs.Bounds.{read}
+use Rattle.integers.proofs.Bounds.{read}
 use Rattle.rules.specs.declared.Progress.{Progress}
 use Rattle.rules.specs.Refusals.{answer_refusal, too_large}
 use Rattle.rules.specs.Search.{answered_at}

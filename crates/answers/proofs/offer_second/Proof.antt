@@ -5,7 +5,7 @@ use mathlib.Core.Path.{◌≡◌, sym, ap, ◌∙◌}
 use borrow.Author.Tests.{eq-eqb, ne_eqb}
 use mir.Syntax.{w32}
 use mir.Val.{SFits}
-use Rattle.integers.specs.Bounds.{read}
+use Rattle.integers.proofs.Bounds.{read}
 use mathlib.Core.Bool.{false}
 use Rattle.rules.specs.declared.Progress.{Progress}
 use Rattle.rules.specs.Refusals.{answer_refusal, too_large, same_side}

@@ -8,7 +8,7 @@ use lib.IntN.{pos}
 use lib.ListN.{get_or}
 use mir.Syntax.{w32}
 use mir.Val.{SFits}
-use Rattle.integers.specs.Bounds.{read}
+use Rattle.integers.proofs.Bounds.{read}
 use Rattle.answers.specs.Answers.{other_than}
 use Rattle.answers.proofs.other_at.Statement.{statement}
 use Rattle.answers.proofs.other_at.Tie as tie

@@ -7,7 +7,7 @@ use lib.IntN.{pos}
 use lib.ListN.{length, get_or}
 use mir.Syntax.{w32}
 use mir.Val.{SFits}
-use Rattle.integers.specs.Bounds.{read}
+use Rattle.integers.proofs.Bounds.{read}
 use Rattle.answers.specs.Answers.{value_at}
 use Rattle.answers.proofs.value_at.Statement.{statement}
 use Rattle.answers.proofs.value_at.Tie as tie

@@ -4,7 +4,7 @@ use mathlib.Core.Path.{◌≡◌, sym, ap, ap₂, ◌∙◌}
 use borrow.Author.Rules.{rules}
 use lib.IntN.{ℤ}
 use lib.ListN.{length}
-use Rattle.integers.specs.Bounds.{read}
+use Rattle.integers.proofs.Bounds.{read}
 use Rattle.surveying.specs.Survey.{surveyed_of, list_of, surveyed_row_of}
 use Rattle.asked.proofs.survey_row.Statement.{statement}
 use Rattle.asked.proofs.survey_row.Tie as tie

@@ -5,7 +5,7 @@ use Rattle.std.proofs.Common.{rules, FitsSigned, w32, ◌≡◌, ◌<◌, length
 use Rattle.rules.specs.Rules.{slots}
 use Rattle.rules.specs.Rows.{row_of}
 use Rattle.numbered.specs.Inner.{numbered_of}
-use Rattle.held.specs.HeldLaws.{stores, verdict_on}
+use Rattle.held.proofs.HeldLaws.{stores, verdict_on}
 use Rattle.busdekker.proofs.busdekker_enter.Goals as goal
 
 pub bounds-search-at : goal.bounds-search-at

@@ -6,7 +6,7 @@ use Rattle.rules.specs.declared.Row.{Row}
 use Rattle.rules.specs.Rules.{slots}
 use Rattle.rules.specs.Rows.{row_of}
 use Rattle.held.specs.declared.Search.{Search}
-use Rattle.held.specs.HeldLaws.{stores}
+use Rattle.held.proofs.HeldLaws.{stores}
 use Rattle.busdekker.proofs.busdekker_entered.Goals as goal
 
 pub bounds-search-at : goal.bounds-search-at

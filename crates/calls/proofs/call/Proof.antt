@@ -1,7 +1,7 @@
 -- `calls::call` meets its contract: both kinds of call do the same.
 -- Assumes nothing.
 use borrow.Author.Rules.{rules}
-use Rattle.integers.specs.Bounds.{read}
+use Rattle.integers.proofs.Bounds.{read}
 use Rattle.calls.proofs.call.Statement.{statement}
 use Rattle.calls.proofs.call.Tie as tie
 

@@ -12,7 +12,7 @@ use Rattle.held.specs.declared.Search.{Search}
 use Rattle.held.specs.Held.{held_report}
 use Rattle.changeover.specs.Changeover.{old_default, search_under, changed_search}
 use Rattle.changeover.specs.Claims.{ChangedSearch}
-use Rattle.changeover.specs.ClaimsHold.{refused_before, changed_searches}
+use Rattle.changeover.proofs.ClaimsHold.{refused_before, changed_searches}
 use Rattle.changing.proofs.change_search.Statement.{statement}
 use Rattle.changing.proofs.change_search.Tie as tie
 

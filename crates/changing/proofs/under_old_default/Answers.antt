@@ -5,7 +5,7 @@ use borrow.Author.Rules.{rules}
 use lib.IntN.{ℤ}
 use mir.Syntax.{w32}
 use mir.Val.{SFits}
-use Rattle.integers.specs.Bounds.{read}
+use Rattle.integers.proofs.Bounds.{read}
 use Rattle.rules.specs.declared.Opening.{Opening}
 use Rattle.changeover.specs.Changeover.{opening_under}
 use Rattle.changing.proofs.under_old_default.Goals as goal

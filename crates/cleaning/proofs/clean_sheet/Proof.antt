@@ -1,7 +1,7 @@
 -- `cleaning::clean_sheet` meets its contract: the outcome that is written is the text's.
 -- Assumes nothing.
 use borrow.Author.Rules.{rules}
-use Rattle.clean_sheets.specs.ClaimsHold.{rewritten}
+use Rattle.clean_sheets.proofs.ClaimsHold.{rewritten}
 use Rattle.cleaning.specs.CleanedLaws.{cleans, sheet_writable}
 use Rattle.cleaning.proofs.clean_sheet.Statement.{statement}
 use Rattle.cleaning.proofs.clean_sheet.Tie as tie

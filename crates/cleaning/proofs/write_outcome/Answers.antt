@@ -2,7 +2,7 @@
 -- search.
 -- Assumes nothing.
 use Rattle.std.proofs.Common.{sym, ap, ◌∙◌}
-use Rattle.integers.specs.SignsLaws.{never}
+use Rattle.integers.proofs.SignsLaws.{never}
 use Rattle.cleaning.specs.Cleaned.{length_told}
 use Rattle.cleaning.proofs.write_outcome.Goals as goal
 

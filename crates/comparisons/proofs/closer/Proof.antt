@@ -3,7 +3,7 @@
 use borrow.Author.Rules.{rules}
 use mir.Syntax.{w32}
 use mir.Val.{SFits}
-use Rattle.integers.specs.Bounds.{read}
+use Rattle.integers.proofs.Bounds.{read}
 use Rattle.comparisons.proofs.closer.Statement.{statement}
 use Rattle.comparisons.proofs.closer.Tie as tie
 

@@ -6,8 +6,8 @@ use native.Mathlib.Omega.{arith}
 use lib.IntN.{pos}
 use mir.Syntax.{w64}
 use mir.Val.{SFits}
-use Rattle.integers.specs.Bounds.{within_nat, within_fits, read, bits_equal}
-use Rattle.integers.specs.Formulas.{widens}
+use Rattle.integers.proofs.Bounds.{within_nat, within_fits, read, bits_equal}
+use Rattle.integers.proofs.Formulas.{widens}
 use borrow.Author.Rules.{rules}
 use Rattle.comparisons.proofs.differs.Statement.{statement}
 use Rattle.comparisons.proofs.differs.Tie as tie

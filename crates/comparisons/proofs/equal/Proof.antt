@@ -1,6 +1,6 @@
 -- `comparisons::equal` meets its contract: two numbers are equal where their bits are.
 -- Assumes nothing.
-use Rattle.integers.specs.Bounds.{bits_equal}
+use Rattle.integers.proofs.Bounds.{bits_equal}
 use Rattle.comparisons.proofs.equal.Statement.{statement}
 use Rattle.comparisons.proofs.equal.Tie as tie
 

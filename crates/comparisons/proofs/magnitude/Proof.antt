@@ -4,8 +4,8 @@
 use mathlib.Core.Path.{◌∙◌}
 use native.Mathlib.Omega.{arith}
 use lib.Signed.{lt_z}
-use Rattle.integers.specs.Bounds.{within_neg, fits_within, abs_neg, neg_of_negative, not_negative}
-use Rattle.integers.specs.Formulas.{Formula, wide, literal, neg, widens, asks, reads, tests}
+use Rattle.integers.proofs.Bounds.{within_neg, fits_within, abs_neg, neg_of_negative, not_negative}
+use Rattle.integers.proofs.Formulas.{Formula, wide, literal, neg, widens, asks, reads, tests}
 use Rattle.comparisons.proofs.magnitude.Statement.{statement}
 use Rattle.comparisons.proofs.magnitude.Tie as tie
 

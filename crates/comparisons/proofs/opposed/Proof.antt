@@ -1,8 +1,8 @@
 -- `comparisons::opposed` meets its contract: the product of two 32-bit numbers fits 64 bits, so the machine's test is the
 -- definition's.
 -- Assumes nothing.
-use Rattle.integers.specs.Bounds.{fits_within}
-use Rattle.integers.specs.Formulas.{Formula, wide, mul, widens, asks, reads}
+use Rattle.integers.proofs.Bounds.{fits_within}
+use Rattle.integers.proofs.Formulas.{Formula, wide, mul, widens, asks, reads}
 use Rattle.rules.specs.Rules.{opposed}
 use Rattle.comparisons.proofs.opposed.Statement.{statement}
 use Rattle.comparisons.proofs.opposed.Tie as tie

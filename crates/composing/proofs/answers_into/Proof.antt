@@ -9,7 +9,7 @@ use lib.ListN.{length, take, get_or}
 use mir.Syntax.{w32}
 use mir.Val.{SFits, to_z, of_z}
 use borrow.Author.Rules.{rules}
-use Rattle.integers.specs.Bounds.{read}
+use Rattle.integers.proofs.Bounds.{read}
 use Rattle.rules.specs.Search.{progress_of}
 use Rattle.clean_sheets.specs.Clean.{called_at}
 use Rattle.sheet_text.specs.Pieces.{answer_text}

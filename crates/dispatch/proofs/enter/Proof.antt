@@ -3,13 +3,13 @@
 use mathlib.Core.Path.{◌≡◌, sym, ap, ◌∙◌}
 use mir.Syntax.{w32}
 use mir.Val.{SFits}
-use Rattle.integers.specs.Bounds.{read}
+use Rattle.integers.proofs.Bounds.{read}
 use Rattle.held.specs.declared.Search.{Search}
 use Rattle.held.specs.declared.Entered.{Entered}
 use Rattle.held.specs.Held.{enter_of}
 use Rattle.dispatching.specs.declared.Turn.{Turn}
 use Rattle.dispatching.specs.Dispatching.{search_at, is_dryer, served_at, settled_by}
-use Rattle.dispatching.specs.DispatchingLaws.{answer_nowhere, answer_early, answer_due}
+use Rattle.dispatching.proofs.DispatchingLaws.{answer_nowhere, answer_early, answer_due}
 use borrow.Author.Rules.{rules}
 use Rattle.dispatch.proofs.enter.Statement.{statement}
 use Rattle.dispatch.proofs.enter.Tie as tie

@@ -5,7 +5,7 @@ use Rattle.held.specs.declared.Search.{Search}
 use Rattle.held.specs.declared.Entered.{Entered}
 use Rattle.held.specs.Held.{reopen_of}
 use Rattle.dispatching.specs.Dispatching.{unfinished, with_search, settled_by}
-use Rattle.dispatching.specs.DispatchingLaws.{opening_nowhere, opening_early, opening_due}
+use Rattle.dispatching.proofs.DispatchingLaws.{opening_nowhere, opening_early, opening_due}
 use borrow.Author.Rules.{rules}
 use Rattle.dispatch.proofs.open.Statement.{statement}
 use Rattle.dispatch.proofs.open.Tie as tie

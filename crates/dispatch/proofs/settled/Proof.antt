@@ -1,7 +1,7 @@
 -- `dispatch::settled` meets its contract: refused, or accepted.
 -- Assumes nothing.
 use mathlib.Core.Path.{sym, ◌∙◌}
-use Rattle.dispatching.specs.DispatchingLaws.{settled_refused, settled_accepted}
+use Rattle.dispatching.proofs.DispatchingLaws.{settled_refused, settled_accepted}
 use borrow.Author.Rules.{rules}
 use Rattle.dispatch.proofs.settled.Statement.{statement}
 use Rattle.dispatch.proofs.settled.Tie as tie

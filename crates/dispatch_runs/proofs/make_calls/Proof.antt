@@ -7,7 +7,7 @@ use native.Mathlib.Omega.{arith}
 use lib.ListN.{length}
 use borrow.Author.Rules.{rules}
 use Rattle.dispatching.specs.Dispatching.{dryers}
-use Rattle.dispatching.specs.DispatchingLaws.{length_mapped}
+use Rattle.dispatching.proofs.DispatchingLaws.{length_mapped}
 use Rattle.dispatch_calls.specs.Listed.{how_many}
 use Rattle.dispatch_runs.specs.RunsLaws.{Made, made_none, one_before, made_more, made_all}
 use Rattle.dispatch_runs.proofs.make_calls.Statement.{statement}

@@ -1,7 +1,7 @@
 -- `interpolation::cross` meets its contract, by its formula: every product and difference on the way fits 64 bits.
 -- Assumes nothing.
 use borrow.Author.Rules.{rules}
-use Rattle.integers.specs.Formulas.{Formula, sub, mul, widens, asks, reads, reads_within}
+use Rattle.integers.proofs.Formulas.{Formula, sub, mul, widens, asks, reads, reads_within}
 use Rattle.rules.specs.Rules.{cross_of}
 use Rattle.interpolation.proofs.Parts.{value_fits, F, difference, gap}
 use Rattle.interpolation.proofs.cross.Statement.{statement}

@@ -9,8 +9,8 @@ use lib.Signed.{lt_z}
 use mir.Syntax.{w64}
 use mir.Facts.{sfits_lit}
 use Rattle.integers.specs.Signs.{eq_z}
-use Rattle.integers.specs.Bounds.{within_fits, above_of_negative, above_of_not, bits_same, bits_other}
-use Rattle.integers.specs.Formulas.{Formula, whole, literal, neg, asks, reads, reads_within, tests}
+use Rattle.integers.proofs.Bounds.{within_fits, above_of_negative, above_of_not, bits_same, bits_other}
+use Rattle.integers.proofs.Formulas.{Formula, whole, literal, neg, asks, reads, reads_within, tests}
 use Rattle.rules.specs.Rules.{displacement_of}
 use Rattle.interpolation.proofs.displacement.Statement.{statement}
 use Rattle.interpolation.proofs.displacement.Tie as tie

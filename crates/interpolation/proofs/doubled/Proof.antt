@@ -1,6 +1,6 @@
 -- `interpolation::doubled` meets its contract: twice the numerator of an estimate fits 64 bits.
 -- Assumes nothing.
-use Rattle.integers.specs.Formulas.{Formula, whole, literal, mul, asks, reads, reads_within}
+use Rattle.integers.proofs.Formulas.{Formula, whole, literal, mul, asks, reads, reads_within}
 use Rattle.rules.specs.Rules.{doubled_of}
 use Rattle.interpolation.proofs.doubled.Statement.{statement}
 use Rattle.interpolation.proofs.doubled.Tie as tie

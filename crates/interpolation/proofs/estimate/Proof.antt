@@ -8,8 +8,8 @@ use lib.IntN.{pos}
 use mir.Syntax.{w64}
 use mir.Facts.{sfits_lit}
 use Rattle.integers.specs.Signs.{eq_z}
-use Rattle.integers.specs.Bounds.{bits_same, bits_other}
-use Rattle.integers.specs.Formulas.{Formula, whole, mul, neg, asks, reads, reads_within}
+use Rattle.integers.proofs.Bounds.{bits_same, bits_other}
+use Rattle.integers.proofs.Formulas.{Formula, whole, mul, neg, asks, reads, reads_within}
 use Rattle.interpolation.specs.Estimates.{estimate_of}
 use Rattle.interpolation.proofs.Parts.{difference, gap}
 use Rattle.interpolation.proofs.estimate.Statement.{statement}

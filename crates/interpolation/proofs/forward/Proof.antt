@@ -12,9 +12,9 @@ use lib.IntN.{ℤ, pos, negsuc, nat_abs, ◌*ℤ◌}
 use lib.Signed.{lt_z, le_z, non_neg, quot_z, ◌<ℤ◌}
 use mir.Syntax.{w64}
 use borrow.Author.Tests.{leb-true}
-use Rattle.integers.specs.SignsLaws.{never}
-use Rattle.integers.specs.Bounds.{bits_positive}
-use Rattle.integers.specs.Formulas.{Formula, whole, nat, literal, mul, quot, value, asks, reads, tests}
+use Rattle.integers.proofs.SignsLaws.{never}
+use Rattle.integers.proofs.Bounds.{bits_positive}
+use Rattle.integers.proofs.Formulas.{Formula, whole, nat, literal, mul, quot, value, asks, reads, tests}
 use Rattle.rules.specs.Rules.{forward_of}
 use Rattle.interpolation.proofs.forward.Statement.{statement}
 use Rattle.interpolation.proofs.forward.Tie as tie

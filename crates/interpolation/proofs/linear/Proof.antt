@@ -3,8 +3,8 @@
 -- Assumes nothing.
 use native.Mathlib.Omega.{arith}
 use lib.Dec.{lit≤}
-use Rattle.integers.specs.Bounds.{within_more}
-use Rattle.integers.specs.Formulas.{Formula, sub, widens, asks, reads, reads_within}
+use Rattle.integers.proofs.Bounds.{within_more}
+use Rattle.integers.proofs.Formulas.{Formula, sub, widens, asks, reads, reads_within}
 use Rattle.interpolation.specs.Estimates.{linear_estimate}
 use Rattle.interpolation.proofs.Parts.{value_fits, F}
 use Rattle.interpolation.proofs.linear.Statement.{statement}

@@ -2,7 +2,7 @@
 -- Assumes nothing.
 use borrow.Author.Rules.{rules}
 use native.Mathlib.Omega.{arith}
-use Rattle.integers.specs.Formulas.{Formula, whole, sub, asks, reads, reads_within}
+use Rattle.integers.proofs.Formulas.{Formula, whole, sub, asks, reads, reads_within}
 use Rattle.interpolation.specs.Estimates.{rational_estimate}
 use Rattle.interpolation.proofs.rational.Statement.{statement}
 use Rattle.interpolation.proofs.rational.Tie as tie

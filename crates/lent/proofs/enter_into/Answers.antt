@@ -2,7 +2,7 @@
 -- Assumes nothing.
 use Rattle.std.proofs.Common.{rules, FitsSigned, w32, ◌≡◌, length, to_z-of_z}
 use Rattle.rules.specs.Rules.{slots}
-use Rattle.held.specs.HeldLaws.{stores}
+use Rattle.held.proofs.HeldLaws.{stores}
 use Rattle.lent.proofs.enter_into.Goals as goal
 
 pub bounds-search-at : goal.bounds-search-at

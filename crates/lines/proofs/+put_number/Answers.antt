@@ -4,9 +4,9 @@
 use Rattle.std.proofs.Common.{ℕ, ◌≡◌, ◌+◌, ◌/◌, ◌≤◌, ap, ◌∙◌, arith, length, length-append}
 use Rattle.lines.specs.declared.Line.{Line}
 use Rattle.lines.specs.Decimal.{decimal_of}
-use Rattle.lines.specs.DecimalLaws.{decimal_one, decimal_more}
+use Rattle.lines.proofs.DecimalLaws.{decimal_one, decimal_more}
 use Rattle.lines.specs.Line.{written}
-use Rattle.lines.specs.LineLaws.{written_append, written_len}
+use Rattle.lines.proofs.LineLaws.{written_append, written_len}
 use Rattle.lines.proofs.+put_number.Goals as goal
 
 more_length : (n : ℕ) → 10 ≤ n → length (decimal_of n) ≡ length (decimal_of (n / 10)) + 1

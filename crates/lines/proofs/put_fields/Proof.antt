@@ -7,7 +7,7 @@ use lib.ListN.{length}
 use borrow.Author.Rules.{rules}
 use Rattle.lines.specs.Decimal.{number_fields}
 use Rattle.lines.specs.Line.{written}
-use Rattle.lines.specs.LineLaws.{fieldwise, SoFar, none_yet, next_fits, one_more, all_put}
+use Rattle.lines.proofs.LineLaws.{fieldwise, SoFar, none_yet, next_fits, one_more, all_put}
 use Rattle.lines.proofs.put_fields.Statement.{statement}
 use Rattle.lines.proofs.put_fields.Tie as tie
 

@@ -5,7 +5,7 @@ use Prim.Native.Nat.{◌-◌}
 use native.Mathlib.Omega.{arith}
 use lib.ListN.{length}
 use Rattle.lines.specs.Line.{written}
-use Rattle.lines.specs.LineLaws.{bytewise, SoFar, none_yet, next_fits, one_more, all_put}
+use Rattle.lines.proofs.LineLaws.{bytewise, SoFar, none_yet, next_fits, one_more, all_put}
 use Rattle.lines.proofs.put_text.Statement.{statement}
 use Rattle.lines.proofs.put_text.Tie as tie
 

@@ -8,15 +8,15 @@ use mir.Syntax.{w32}
 use mir.Val.{SFits}
 use mir.Facts.{to_z_pos}
 use borrow.Author.Rules.{rules}
-use Rattle.integers.specs.Bounds.{read}
+use Rattle.integers.proofs.Bounds.{read}
 use Rattle.rules.specs.declared.Report.{Report}
 use Rattle.rules.specs.Search.{most_of}
 use Rattle.rules.specs.Rows.{row_of}
 use Rattle.held.specs.Held.{open_of, enter_of}
-use Rattle.held.specs.HeldLaws.{WithinLimits}
+use Rattle.held.proofs.HeldLaws.{WithinLimits}
 use Rattle.loading.specs.Loading.{draw_of, load_opening, drawn_value, placed_value}
-use Rattle.loading.specs.DrawLaws.{value_within}
-use Rattle.loading.specs.DrawingLaws.{Drawing, opening_drawn, fifth_drawn, drawing_begin, drawing_end, drawing_limited, drawing_more, drawing_less}
+use Rattle.loading.proofs.DrawLaws.{value_within}
+use Rattle.loading.proofs.DrawingLaws.{Drawing, opening_drawn, fifth_drawn, drawing_begin, drawing_end, drawing_limited, drawing_more, drawing_less}
 use Rattle.load.proofs.draw_load.Statement.{statement}
 use Rattle.load.proofs.draw_load.Tie as tie
 

@@ -8,7 +8,7 @@ use mir.Facts.{to_z_pos}
 use borrow.Author.Rules.{rules}
 use Rattle.rules.specs.Rules.{highest}
 use Rattle.loading.specs.Loading.{drawn_opening}
-use Rattle.loading.specs.DrawLaws.{point_most, second_most}
+use Rattle.loading.proofs.DrawLaws.{point_most, second_most}
 use Rattle.load.proofs.drawn_opening.Statement.{statement}
 use Rattle.load.proofs.drawn_opening.Tie as tie
 

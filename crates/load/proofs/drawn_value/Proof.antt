@@ -9,9 +9,9 @@ use mir.Syntax.{w32}
 use mir.Val.{to_z}
 use mir.Facts.{to_z-of_z, to_z_pos}
 use borrow.Author.Rules.{rules}
-use Rattle.integers.specs.Bounds.{within_fits}
+use Rattle.integers.proofs.Bounds.{within_fits}
 use Rattle.loading.specs.Loading.{drawn_value}
-use Rattle.loading.specs.DrawLaws.{value_within}
+use Rattle.loading.proofs.DrawLaws.{value_within}
 use Rattle.load.proofs.drawn_value.Statement.{statement}
 use Rattle.load.proofs.drawn_value.Tie as tie
 

@@ -3,7 +3,7 @@
 use mathlib.Core.Path.{sym, ◌∙◌}
 use borrow.Author.Rules.{rules}
 use Rattle.loading.specs.Loading.{load_of}
-use Rattle.loading.specs.ClaimsHold.{every_load}
+use Rattle.loading.proofs.ClaimsHold.{every_load}
 use Rattle.load.proofs.load.Statement.{statement}
 use Rattle.load.proofs.load.Tie as tie
 

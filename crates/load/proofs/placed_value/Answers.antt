@@ -5,7 +5,7 @@ use Rattle.std.proofs.Math.IntN.{ℤ, pos, nat_abs, neg_ℤ, ◌-ℤ◌}
 use mir.Syntax.{w32}
 use mir.Val.{SFits, to_z, of_z}
 use mir.Facts.{to_z-of_z}
-use Rattle.integers.specs.Bounds.{read, zero_sub, within_neg, within_fits}
+use Rattle.integers.proofs.Bounds.{read, zero_sub, within_neg, within_fits}
 use Rattle.rules.specs.Rules.{largest_value}
 use Rattle.rules.specs.Refusals.{same_side}
 use Rattle.loading.specs.Loading.{placed_value}

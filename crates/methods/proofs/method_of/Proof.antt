@@ -6,7 +6,7 @@ use lib.IntN.{pos}
 use mir.Syntax.{w32}
 use mir.Val.{SFits}
 use Rattle.integers.specs.Signs.{eq_z}
-use Rattle.integers.specs.Bounds.{read}
+use Rattle.integers.proofs.Bounds.{read}
 use Rattle.rules.specs.Rules.{method_of}
 use Rattle.methods.proofs.method_of.Statement.{statement}
 use Rattle.methods.proofs.method_of.Tie as tie

@@ -1,7 +1,7 @@
 -- `modbus::echo` meets its contract: the request has five bytes.
 -- Assumes nothing.
 use native.Mathlib.Omega.{arith}
-use Rattle.registers.specs.ExchangeLaws.{five_bytes}
+use Rattle.registers.proofs.ExchangeLaws.{five_bytes}
 use borrow.Author.Rules.{rules}
 use Rattle.modbus.proofs.echo.Statement.{statement}
 use Rattle.modbus.proofs.echo.Tie as tie

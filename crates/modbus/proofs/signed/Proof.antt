@@ -8,7 +8,7 @@ use mir.Syntax.{w32}
 use mir.Val.{to_z}
 use mir.Facts.{to_z-of_z, to_z_pos}
 use borrow.Author.Tests.{lt-ltb, le-ltb}
-use Rattle.integers.specs.Bounds.{within_fits, within_difference}
+use Rattle.integers.proofs.Bounds.{within_fits, within_difference}
 use Rattle.registers.specs.Exchange.{signed_of}
 use borrow.Author.Rules.{rules}
 use Rattle.modbus.proofs.signed.Statement.{statement}

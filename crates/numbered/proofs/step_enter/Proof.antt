@@ -6,7 +6,7 @@ use mir.Syntax.{w32}
 use mir.Val.{SFits, to_z, of_z}
 use mir.Facts.{to_z-of_z}
 use Rattle.verdicts.specs.declared.Verdict.{Verdict}
-use Rattle.held.specs.HeldLaws.{verdict_on}
+use Rattle.held.proofs.HeldLaws.{verdict_on}
 use Rattle.numbered.specs.Inner.{numbered_of}
 use Rattle.rules.specs.declared.Row.{Row}
 use borrow.Author.Rules.{rules}

@@ -9,10 +9,10 @@ use borrow.Author.Rules.{rules}
 use Rattle.rules.specs.Search.{is_refusal}
 use Rattle.held.specs.declared.Entered.{Entered}
 use Rattle.held.specs.Held.{held_report}
-use Rattle.clean_sheets.specs.ClaimsHold.{search_accepted}
+use Rattle.clean_sheets.proofs.ClaimsHold.{search_accepted}
 use Rattle.cleaning.specs.CleanedLaws.{Writable, cleans}
 use Rattle.changeover.specs.Changeover.{old_default, sheet_under, changed_sheet}
-use Rattle.changeover.specs.ClaimsHold.{refused_before, changed_sheets}
+use Rattle.changeover.proofs.ClaimsHold.{refused_before, changed_sheets}
 use Rattle.old_sheets.proofs.change_sheet.Statement.{statement}
 use Rattle.old_sheets.proofs.change_sheet.Tie as tie
 

@@ -5,10 +5,10 @@ use Rattle.rules.specs.declared.Opening.{Opening}
 use Rattle.rules.specs.Rules.{slots}
 use Rattle.forms.specs.declared.Entries.{Entries}
 use Rattle.outcomes.specs.Sheet.{judged}
-use Rattle.outcomes.specs.SheetLaws.{entries_few}
+use Rattle.outcomes.proofs.SheetLaws.{entries_few}
 use Rattle.changeover.specs.Changeover.{old_default}
-use Rattle.changeover.specs.UnderLaws.{under_judged}
-use Rattle.changeover.specs.ClaimsHold.{under}
+use Rattle.changeover.proofs.UnderLaws.{under_judged}
+use Rattle.changeover.proofs.ClaimsHold.{under}
 use Rattle.old_sheets.proofs.read_old_sheet.Goals as goal
 
 pub judge-requires : goal.judge-requires

@@ -11,8 +11,8 @@ use borrow.Author.Tests.{lt-ltb}
 use Rattle.registers.specs.Exchange.{longest_reply, exchanged_of, reply_buffer}
 use Rattle.held.specs.declared.Search.{Search}
 use Rattle.registers.specs.Claims.{PanelExchange, EveryValue, EveryPanelRun, EveryFreshPanelRun}
-use Rattle.registers.specs.PanelLaws.{every_value}
-use Rattle.registers.specs.ClaimsHold.{exchanged, panel_run, fresh_panel_run}
+use Rattle.registers.proofs.PanelLaws.{every_value}
+use Rattle.registers.proofs.ClaimsHold.{exchanged, panel_run, fresh_panel_run}
 use Rattle.panel.specs.Told.{few, told_is, buffer_is}
 use Rattle.panel.proofs.panel.Statement.{statement}
 use Rattle.panel.proofs.panel.Tie as tie

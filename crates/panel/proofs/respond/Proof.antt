@@ -14,8 +14,8 @@ use Rattle.held.specs.declared.Search.{Search}
 use Rattle.held.specs.Held.{held_report}
 use Rattle.registers.specs.Registers.{registers_at, registers_of}
 use Rattle.registers.specs.Inner.{read_told}
-use Rattle.held.specs.HeldLaws.{WithinLimits, held_limited}
-use Rattle.registers.specs.ExchangeLaws.{empty_exchange, refused_exchange, other_exchange, read_exchange, write_exchange}
+use Rattle.held.proofs.HeldLaws.{WithinLimits, held_limited}
+use Rattle.registers.proofs.ExchangeLaws.{empty_exchange, refused_exchange, other_exchange, read_exchange, write_exchange}
 use Rattle.modbus.specs.Reply.{Holds}
 use Rattle.panel.proofs.respond.Statement.{statement}
 use Rattle.panel.proofs.respond.Tie as tie

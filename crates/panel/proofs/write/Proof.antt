@@ -4,7 +4,7 @@ use Prim.Native.Nat.{ℕ, ◌<◌, ◌^◌}
 use mathlib.Core.List.{List}
 use mir.Syntax.{w32}
 use mir.Facts.{to_z_pos}
-use Rattle.integers.specs.Bounds.{read}
+use Rattle.integers.proofs.Bounds.{read}
 use mathlib.Core.Bool.{true, false}
 use lib.Dec.{eqb}
 use mathlib.Core.Path.{◌≡◌, refl, sym, ap, subst, ◌∙◌}
@@ -16,7 +16,7 @@ use Rattle.held.specs.declared.Search.{Search}
 use Rattle.held.specs.declared.Entered.{Entered}
 use Rattle.registers.specs.Exchange.{entry_of}
 use Rattle.registers.specs.Inner.{form_fault, Writable}
-use Rattle.registers.specs.ExchangeLaws.{writable, write_misplaced, write_refused, write_accepted}
+use Rattle.registers.proofs.ExchangeLaws.{writable, write_misplaced, write_refused, write_accepted}
 use Rattle.panel.specs.Told.{Tells}
 use Rattle.panel.proofs.write.Statement.{statement}
 use Rattle.panel.proofs.write.Tie as tie

@@ -7,7 +7,7 @@ use mathlib.Core.List.{List}
 use native.Mathlib.Omega.{arith}
 use Rattle.lines.specs.Decimal.{number_fields}
 use Rattle.lines.specs.Line.{empty_line, written}
-use Rattle.lines.specs.LineLaws.{written_append, written_len, written_holds}
+use Rattle.lines.proofs.LineLaws.{written_append, written_len, written_holds}
 use Rattle.printing.specs.Printed.{line_end, record_with}
 use Rattle.printing.specs.PrintedLaws.{record_parts}
 use Rattle.printing.proofs.line_with.Statement.{statement}

@@ -3,7 +3,7 @@
 use borrow.Author.Rules.{rules}
 use native.Mathlib.Omega.{arith}
 use lib.ListN.{length-take}
-use Rattle.lines.specs.LineLaws.{holds_short}
+use Rattle.lines.proofs.LineLaws.{holds_short}
 use Rattle.printing.proofs.write_report.Statement.{statement}
 use Rattle.printing.proofs.write_report.Tie as tie
 

@@ -5,7 +5,7 @@ use mathlib.Core.Bool.{false}
 use lib.Dec.{eqb}
 use borrow.Author.Tests.{eq-eqb, ne_eqb}
 use Rattle.registers.specs.Exchange.{read_fault}
-use Rattle.registers.specs.ExchangeLaws.{readable}
+use Rattle.registers.proofs.ExchangeLaws.{readable}
 use borrow.Author.Rules.{rules}
 use Rattle.readout.proofs.read.Statement.{statement}
 use Rattle.readout.proofs.read.Tie as tie

@@ -2,7 +2,7 @@
 -- Assumes nothing.
 use mathlib.Core.Path.{subst}
 use native.Mathlib.Omega.{arith}
-use Rattle.held.specs.HeldLaws.{WithinLimits}
+use Rattle.held.proofs.HeldLaws.{WithinLimits}
 use borrow.Author.Rules.{rules}
 use Rattle.readout.proofs.registers_at.Statement.{statement}
 use Rattle.readout.proofs.registers_at.Tie as tie

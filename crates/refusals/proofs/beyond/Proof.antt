@@ -3,8 +3,8 @@
 use mathlib.Core.Path.{◌∙◌}
 use borrow.Author.Rules.{rules}
 use lib.Signed.{lt_z}
-use Rattle.integers.specs.Bounds.{fits_within}
-use Rattle.integers.specs.Formulas.{Formula, wide, nat, widens, tests}
+use Rattle.integers.proofs.Bounds.{fits_within}
+use Rattle.integers.proofs.Formulas.{Formula, wide, nat, widens, tests}
 use native.Mathlib.Omega.{arith}
 use Rattle.refusals.proofs.beyond.Statement.{statement}
 use Rattle.refusals.proofs.beyond.Tie as tie

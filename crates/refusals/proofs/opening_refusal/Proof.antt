@@ -6,7 +6,7 @@ use borrow.Author.Rules.{rules}
 use mir.Syntax.{w32}
 use mir.Val.{SFits}
 use Rattle.integers.specs.Signs.{eq_z}
-use Rattle.integers.specs.Bounds.{read}
+use Rattle.integers.proofs.Bounds.{read}
 use Rattle.rules.specs.Rules.{highest, largest_tolerance, largest_share}
 use Rattle.rules.specs.Refusals.{outside, opening_refusal}
 use Rattle.refusals.proofs.opening_refusal.Statement.{statement}

@@ -1,7 +1,7 @@
 -- `refusals::same_side` meets its contract: by the sign of the first value.
 -- Assumes nothing.
 use mathlib.Core.Path.{sym}
-use Rattle.integers.specs.Bounds.{read}
+use Rattle.integers.proofs.Bounds.{read}
 use Rattle.refusals.proofs.Laws.{side_above, side_below, side_neither}
 use Rattle.refusals.proofs.same_side.Statement.{statement}
 use Rattle.refusals.proofs.same_side.Tie as tie

@@ -2,7 +2,7 @@
 -- Assumes nothing.
 use mir.Syntax.{w32}
 use mir.Val.{SFits}
-use Rattle.integers.specs.Bounds.{read}
+use Rattle.integers.proofs.Bounds.{read}
 use borrow.Author.Rules.{rules}
 use Rattle.refusals.proofs.too_large.Statement.{statement}
 use Rattle.refusals.proofs.too_large.Tie as tie

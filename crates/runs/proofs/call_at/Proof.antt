@@ -8,7 +8,7 @@ use lib.Seq.{sets}
 use mir.Syntax.{w32}
 use mir.Val.{SFits}
 use borrow.Author.Rules.{rules}
-use Rattle.integers.specs.Bounds.{read}
+use Rattle.integers.proofs.Bounds.{read}
 use Rattle.held.specs.declared.Entered.{Entered}
 use Rattle.rules.specs.declared.Row.{Row}
 use Rattle.rules.specs.Rows.{row_of, row_numbers, numbers_each}

@@ -8,9 +8,9 @@ use borrow.Author.Tests.{ne_eqb}
 use lib.IntN.{nat_abs}
 use mir.Syntax.{w32}
 use mir.Val.{SFits}
-use Rattle.integers.specs.Bounds.{read}
+use Rattle.integers.proofs.Bounds.{read}
 use Rattle.rules.specs.Rules.{slots, method_of, allowed}
-use Rattle.rules.specs.RefusalsLaws.{Opened, opened}
+use Rattle.rules.proofs.RefusalsLaws.{Opened, opened}
 use Rattle.rules.specs.Search.{distance_of, turns_of, tOf, quote_of}
 use Rattle.search.proofs.Laws.{allowed_few, quote_fits, quote_is}
 use borrow.Author.Rules.{rules}

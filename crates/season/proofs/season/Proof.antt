@@ -5,8 +5,8 @@ use mathlib.Core.Bool.{false}
 use native.Mathlib.Omega.{arith}
 use lib.ListN.{length}
 use Rattle.seasons.specs.Season.{misshapen}
-use Rattle.seasons.specs.RunLaws.{shaped, season_refused, season_is}
-use Rattle.seasons.specs.ClaimsHold.{every_season}
+use Rattle.seasons.proofs.RunLaws.{shaped, season_refused, season_is}
+use Rattle.seasons.proofs.ClaimsHold.{every_season}
 use borrow.Author.Rules.{rules}
 use Rattle.season.proofs.season.Statement.{statement}
 use Rattle.season.proofs.season.Tie as tie

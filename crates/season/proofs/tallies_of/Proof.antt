@@ -9,7 +9,7 @@ use lib.ListN.{length, get_or}
 use lib.Seq.{take_all}
 use Rattle.seasons.specs.Season.{outcomes_of, tallies_of, most_outcomes}
 use Rattle.seasons.specs.Inner.{largest_number}
-use Rattle.seasons.specs.RunLaws.{Tallied, tallied_none, tallied_more, small_at, small_within, shaped}
+use Rattle.seasons.proofs.RunLaws.{Tallied, tallied_none, tallied_more, small_at, small_within, shaped}
 use Rattle.season.proofs.tallies_of.Statement.{statement}
 use Rattle.season.proofs.tallies_of.Tie as tie
 

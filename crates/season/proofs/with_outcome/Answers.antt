@@ -1,7 +1,7 @@
 -- `season::with_outcome` meets its contract: by the kind of the outcome.
 -- Assumes nothing.
 use Rattle.std.proofs.Common.{◌≡◌, arith}
-use Rattle.seasons.specs.RunLaws.{enter_refused, enter_stopped, enter_unfinished}
+use Rattle.seasons.proofs.RunLaws.{enter_refused, enter_stopped, enter_unfinished}
 use Rattle.season.proofs.with_outcome.Goals as goal
 
 pub returns-then-kind-gt-UNFINISHED : goal.returns-then-kind-gt-UNFINISHED

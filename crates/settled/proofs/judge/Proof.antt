@@ -9,10 +9,10 @@ use lib.Seq.{length-take-le}
 use Rattle.rules.specs.declared.Progress.{Progress}
 use Rattle.rules.specs.Rules.{slots}
 use Rattle.rules.specs.Search.{report_at}
-use Rattle.rules.specs.SearchLaws.{CountedAt}
+use Rattle.rules.proofs.SearchLaws.{CountedAt}
 use Rattle.forms.specs.declared.Form.{Form}
 use Rattle.outcomes.specs.Sheet.{leads_to, judged}
-use Rattle.outcomes.specs.SheetLaws.{settled_by, settled_is, Below, below, answers_counted, outcome_accepted, outcome_refused}
+use Rattle.outcomes.proofs.SheetLaws.{settled_by, settled_is, Below, below, answers_counted, outcome_accepted, outcome_refused}
 use borrow.Author.Rules.{rules}
 use Rattle.settled.proofs.judge.Statement.{statement}
 use Rattle.settled.proofs.judge.Tie as tie

@@ -9,7 +9,7 @@ use denote.Enum.Declared.{tag_of}
 use Rattle.rules.specs.declared.Report.{Report}
 use Rattle.rules.specs.contracts.Report.{the_type}
 use Rattle.forms.specs.declared.Entries.{Entries}
-use Rattle.outcomes.specs.SheetLaws.{kept_by, settled_by, Below}
+use Rattle.outcomes.proofs.SheetLaws.{kept_by, settled_by, Below}
 use borrow.Author.Rules.{rules}
 use Rattle.settled.proofs.settle.Statement.{statement}
 use Rattle.settled.proofs.settle.Tie as tie

@@ -5,7 +5,7 @@ use mathlib.Core.Path.{sym, ap, subst, ◌∙◌}
 use Rattle.rules.specs.Rules.{slots}
 use Rattle.held.specs.declared.Entered.{Entered}
 use Rattle.forms.specs.declared.Entries.{Entries}
-use Rattle.outcomes.specs.SheetLaws.{entries_few, sheet_judged}
+use Rattle.outcomes.proofs.SheetLaws.{entries_few, sheet_judged}
 use borrow.Author.Rules.{rules}
 use Rattle.sheet.proofs.brief_of.Statement.{statement}
 use Rattle.sheet.proofs.brief_of.Tie as tie

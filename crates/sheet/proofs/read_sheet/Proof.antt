@@ -4,7 +4,7 @@ use Prim.Native.Nat.{◌≤◌}
 use mathlib.Core.Path.{sym, subst, ◌∙◌}
 use Rattle.rules.specs.Rules.{slots}
 use Rattle.forms.specs.declared.Entries.{Entries}
-use Rattle.outcomes.specs.SheetLaws.{entries_few, sheet_judged}
+use Rattle.outcomes.proofs.SheetLaws.{entries_few, sheet_judged}
 use borrow.Author.Rules.{rules}
 use Rattle.sheet.proofs.read_sheet.Statement.{statement}
 use Rattle.sheet.proofs.read_sheet.Tie as tie

@@ -7,7 +7,7 @@ use lib.IntN.{nat_abs}
 use mir.Syntax.{w32}
 use mir.Val.{to_z, of_z}
 use Rattle.rules.specs.Refusals.{outside}
-use Rattle.rules.specs.RefusalsLaws.{ranged}
+use Rattle.rules.proofs.RefusalsLaws.{ranged}
 use Rattle.seasons.specs.Sheets.{method_number}
 use borrow.Author.Rules.{rules}
 use Rattle.sheet_outcomes.proofs.method_number.Statement.{statement}

@@ -4,7 +4,7 @@ use mathlib.Core.Path.{◌≡◌, sym, ap, ◌∙◌}
 use native.Mathlib.Omega.{arith}
 use Rattle.rules.specs.Search.{quote_of}
 use Rattle.seasons.specs.Sheets.{most_quoted}
-use Rattle.seasons.specs.SheetsHold.{quoted_few}
+use Rattle.seasons.proofs.SheetsHold.{quoted_few}
 use borrow.Author.Rules.{rules}
 use Rattle.sheet_outcomes.proofs.most_quoted.Statement.{statement}
 use Rattle.sheet_outcomes.proofs.most_quoted.Tie as tie

@@ -4,7 +4,7 @@ use mathlib.Core.Path.{◌≡◌, sym, subst, ◌∙◌}
 use native.Mathlib.Omega.{arith}
 use Rattle.rules.specs.declared.Report.{Report}
 use Rattle.seasons.specs.Sheets.{outcome_by, sheet_outcome}
-use Rattle.seasons.specs.SheetsHold.{TakenFew, outcome_read, taken_few, every_sheet}
+use Rattle.seasons.proofs.SheetsHold.{TakenFew, outcome_read, taken_few, every_sheet}
 use borrow.Author.Rules.{rules}
 use Rattle.sheet_outcomes.proofs.sheet_outcome.Statement.{statement}
 use Rattle.sheet_outcomes.proofs.sheet_outcome.Tie as tie

@@ -3,7 +3,7 @@
 -- Assumes nothing.
 use Rattle.std.proofs.Common.{ℕ, ◌≡◌, ◌+◌, ◌/◌, ◌≤◌, ◌<◌, refl, sym, ap, arith, length, length-append}
 use Rattle.lines.specs.Decimal.{decimal_of}
-use Rattle.lines.specs.DecimalLaws.{decimal_one, decimal_more}
+use Rattle.lines.proofs.DecimalLaws.{decimal_one, decimal_more}
 use Rattle.sheet_text.specs.PiecesLaws.{same_size, puts_more, puts_byte, in_words}
 use Rattle.sheet_text.proofs.+put_digits.Goals as goal
 

@@ -5,7 +5,7 @@ use mathlib.Core.List.{[], ◌∷◌, ◌++◌}
 use native.Mathlib.Omega.{arith}
 use lib.ListN.{length, set}
 use borrow.Author.Rules.{rules}
-use Rattle.integers.specs.Bounds.{read}
+use Rattle.integers.proofs.Bounds.{read}
 use Rattle.forms.specs.Bytes.{comma}
 use Rattle.lines.specs.Decimal.{decimal_of}
 use Rattle.clean_sheets.specs.Clean.{number_text}

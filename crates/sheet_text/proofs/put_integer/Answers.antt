@@ -3,7 +3,7 @@
 use Rattle.std.proofs.Common.{ℕ, ◌≡◌, ◌<◌, true, false, nat_abs, refl, sym, ap, ◌∙◌, ◌∷◌, arith, length, ℤ, pos, to_z, of_z, w32, FitsSigned}
 use Rattle.std.specs.Int.Signed.{lt_z}
 use Rattle.std.proofs.Math.ListN.{length-set}
-use Rattle.integers.specs.Bounds.{read}
+use Rattle.integers.proofs.Bounds.{read}
 use Rattle.forms.specs.Bytes.{minus}
 use Rattle.lines.specs.Decimal.{decimal_of}
 use Rattle.clean_sheets.specs.Clean.{number_text}

@@ -5,7 +5,7 @@ use mathlib.Core.List.{[], ◌∷◌}
 use native.Mathlib.Omega.{arith}
 use lib.ListN.{length, length-append}
 use borrow.Author.Rules.{rules}
-use Rattle.integers.specs.Bounds.{read}
+use Rattle.integers.proofs.Bounds.{read}
 use Rattle.forms.specs.Bytes.{cr, lf}
 use Rattle.sheet_text.specs.Pieces.{field_text, Puts}
 use Rattle.sheet_text.specs.PiecesLaws.{same_size, puts_more, puts_byte}

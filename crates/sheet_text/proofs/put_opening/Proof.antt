@@ -9,7 +9,7 @@ use lib.ListN.{length, length-append}
 use mir.Syntax.{w32}
 use mir.Val.{SFits, to_z, of_z}
 use borrow.Author.Rules.{rules}
-use Rattle.integers.specs.Bounds.{read}
+use Rattle.integers.proofs.Bounds.{read}
 use Rattle.rules.specs.declared.Opening.{Opening}
 use Rattle.forms.specs.Bytes.{comma}
 use Rattle.sheet_text.specs.Pieces.{field_text, opening_text, Puts}

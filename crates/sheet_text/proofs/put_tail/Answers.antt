@@ -2,7 +2,7 @@
 -- Assumes nothing.
 use Rattle.std.proofs.Common.{◌≡◌, Bool, false, refl, sym, ap, ◌∙◌, arith, length, length-append, ℤ, pos, ◌+◌, to_z, of_z, w32, FitsSigned}
 use Rattle.integers.specs.Signs.{eq_z}
-use Rattle.integers.specs.Bounds.{read}
+use Rattle.integers.proofs.Bounds.{read}
 use Rattle.forms.specs.Bytes.{comma}
 use Rattle.sheet_text.specs.Pieces.{field_text, last_text, tail_text}
 use Rattle.sheet_text.specs.PiecesLaws.{tail_alone, tail_with_share, same_size, puts_more, in_words}

@@ -3,7 +3,7 @@
 use native.Mathlib.Omega.{arith}
 use borrow.Author.Tests.{le-leb, lt-leb}
 use Rattle.rules.specs.Rules.{next_of}
-use Rattle.rules.specs.RulesLaws.{offset_in}
+use Rattle.rules.proofs.RulesLaws.{offset_in}
 use borrow.Author.Rules.{rules}
 use Rattle.steps.proofs.next_point.Statement.{statement}
 use Rattle.steps.proofs.next_point.Tie as tie

@@ -5,8 +5,8 @@ use mathlib.Core.Path.{◌∙◌}
 use native.Mathlib.Omega.{arith}
 use Rattle.interpolation.specs.Ranges.{widest}
 use Rattle.rules.specs.Rules.{offset_of}
-use Rattle.rules.specs.SearchLaws.{tolerance_most}
-use Rattle.steps.specs.ReadyLaws.{surveyed}
+use Rattle.rules.proofs.SearchLaws.{tolerance_most}
+use Rattle.steps.proofs.ReadyLaws.{surveyed}
 use borrow.Author.Rules.{rules}
 use Rattle.steps.proofs.offset.Statement.{statement}
 use Rattle.steps.proofs.offset.Tie as tie

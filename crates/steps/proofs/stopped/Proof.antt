@@ -5,7 +5,7 @@ use native.Mathlib.Omega.{arith}
 use lib.Signed.{nat_abs-le}
 use mir.Syntax.{w32}
 use mir.Val.{SFits}
-use Rattle.rules.specs.SearchLaws.{tolerance_within}
+use Rattle.rules.proofs.SearchLaws.{tolerance_within}
 use Rattle.rules.specs.Rules.{stopped_of}
 use borrow.Author.Rules.{rules}
 use Rattle.steps.proofs.stopped.Statement.{statement}

@@ -9,7 +9,7 @@ use native.Mathlib.Omega.{arith}
 use borrow.Author.Rules.{rules}
 use lib.IntN.{ℤ}
 use lib.ListN.{length}
-use Rattle.surveying.specs.SurveyLaws.{crossings_to, crossings_none, crossings_same, count_more, crossings_at_most}
+use Rattle.surveying.proofs.SurveyLaws.{crossings_to, crossings_none, crossings_same, count_more, crossings_at_most}
 use Rattle.survey.proofs.count_pairs.Statement.{statement}
 use Rattle.survey.proofs.count_pairs.Tie as tie
 

@@ -5,7 +5,7 @@ use mathlib.Core.Path.{ap₂, ◌∙◌}
 use borrow.Author.Rules.{rules}
 use mir.Syntax.{w32}
 use mir.Val.{SFits}
-use Rattle.integers.specs.Bounds.{read}
+use Rattle.integers.proofs.Bounds.{read}
 use Rattle.rules.specs.Rules.{opposed}
 use Rattle.surveying.specs.Survey.{measured_at}
 use Rattle.survey.proofs.crosses_at.Statement.{statement}

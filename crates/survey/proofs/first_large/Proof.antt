@@ -10,8 +10,8 @@ use lib.IntN.{ℤ}
 use lib.ListN.{length}
 use mir.Syntax.{w32}
 use mir.Val.{SFits}
-use Rattle.integers.specs.Bounds.{read}
-use Rattle.integers.specs.DigitsLaws.{first_is}
+use Rattle.integers.proofs.Bounds.{read}
+use Rattle.integers.proofs.DigitsLaws.{first_is}
 use Rattle.rules.specs.Refusals.{too_large}
 use Rattle.surveying.specs.Survey.{measured_at, large_at}
 use Rattle.survey.proofs.first_large.Statement.{statement}

@@ -1,8 +1,8 @@
 -- `survey::is_misplaced` meets its contract: the machine's tests are those of the numbers.
 -- Assumes nothing.
 use Rattle.std.proofs.Common.{sym, ◌∙◌, arith}
-use Rattle.integers.specs.Bounds.{read}
-use Rattle.surveying.specs.SurveyLaws.{too_few, too_many, no_pitch, by_ends}
+use Rattle.integers.proofs.Bounds.{read}
+use Rattle.surveying.proofs.SurveyLaws.{too_few, too_many, no_pitch, by_ends}
 use Rattle.survey.proofs.is_misplaced.Goals as goal
 
 pub returns-then-n-lt-FEWEST : goal.returns-then-n-lt-FEWEST

@@ -4,11 +4,11 @@ use Rattle.std.proofs.Common.{◌≡◌, sym, ap, ap₂, subst, ◌∙◌, ℕ, 
 use Rattle.std.proofs.Math.IntN.{ℤ, pos, nat_abs}
 use mir.Syntax.{w32}
 use mir.Val.{SFits, to_z, of_z}
-use Rattle.integers.specs.Bounds.{read}
+use Rattle.integers.proofs.Bounds.{read}
 use Rattle.surveying.specs.declared.Surveyed.{Surveyed}
 use Rattle.surveying.specs.Survey.{crossings_of, lower_points, is_misplaced, large_at}
-use Rattle.surveying.specs.SurveyLaws.{surveyable, in_numbers, crossings_at_most, says_misplaced, says_large, says_short, says_found, list_after}
-use Rattle.surveying.specs.ClaimsHold.{every_survey}
+use Rattle.surveying.proofs.SurveyLaws.{surveyable, in_numbers, crossings_at_most, says_misplaced, says_large, says_short, says_found, list_after}
+use Rattle.surveying.proofs.ClaimsHold.{every_survey}
 use Rattle.survey.proofs.survey.Goals as goal
 
 -- ---- what is known once a test is passed

@@ -9,7 +9,7 @@ use native.Mathlib.Omega.{arith}
 use borrow.Author.Rules.{rules}
 use lib.IntN.{ℤ}
 use lib.ListN.{length}
-use Rattle.surveying.specs.SurveyLaws.{risen_more, risen_in, PairsWritten, written_none, written_room, written_found, written_passed, written_end}
+use Rattle.surveying.proofs.SurveyLaws.{risen_more, risen_in, PairsWritten, written_none, written_room, written_found, written_passed, written_end}
 use Rattle.survey.proofs.write_pairs.Statement.{statement}
 use Rattle.survey.proofs.write_pairs.Tie as tie
 

@@ -4,7 +4,7 @@ use mathlib.Core.Path.{◌≡◌}
 use native.Mathlib.Omega.{arith}
 use lib.ListN.{length}
 use Rattle.dispatching.specs.Dispatching.{dryers}
-use Rattle.dispatching.specs.DispatchingLaws.{inside, length_mapped}
+use Rattle.dispatching.proofs.DispatchingLaws.{inside, length_mapped}
 use borrow.Author.Rules.{rules}
 use Rattle.turns.proofs.search_at.Statement.{statement}
 use Rattle.turns.proofs.search_at.Tie as tie

@@ -5,7 +5,7 @@ use mathlib.Core.Path.{◌≡◌, sym, ap, ◌∙◌}
 use native.Mathlib.Omega.{arith}
 use lib.ListN.{length}
 use Rattle.dispatching.specs.Dispatching.{dryers, search_at, unfinished}
-use Rattle.dispatching.specs.DispatchingLaws.{inside, length_mapped, Asking, ask_all, ask_none, ask_here, ask_next}
+use Rattle.dispatching.proofs.DispatchingLaws.{inside, length_mapped, Asking, ask_all, ask_none, ask_here, ask_next}
 use borrow.Author.Rules.{rules}
 use Rattle.turns.proofs.turn.Statement.{statement}
 use Rattle.turns.proofs.turn.Tie as tie

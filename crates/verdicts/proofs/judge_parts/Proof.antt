@@ -8,13 +8,13 @@ use lib.IntN.{pos}
 use lib.ListN.{length, get_or}
 use mir.Syntax.{w32}
 use mir.Val.{SFits}
-use Rattle.integers.specs.Bounds.{read}
+use Rattle.integers.proofs.Bounds.{read}
 use Rattle.rules.specs.declared.Progress.{Progress}
 use Rattle.rules.specs.Rules.{slots}
 use Rattle.rules.specs.Search.{is_refused, answers_of, report_at, is_refusal}
-use Rattle.rules.specs.SearchLaws.{refusal_is}
+use Rattle.rules.proofs.SearchLaws.{refusal_is}
 use Rattle.verdicts.specs.Judged.{tried_by}
-use Rattle.verdicts.specs.JudgedLaws.{free_slot, verdict_refused, verdict_entered}
+use Rattle.verdicts.proofs.JudgedLaws.{free_slot, verdict_refused, verdict_entered}
 use Rattle.verdicts.proofs.judge_parts.Statement.{statement}
 use Rattle.verdicts.proofs.judge_parts.Tie as tie
 

@@ -9,7 +9,7 @@ use lib.Seq.{length-take-le}
 use Rattle.rules.specs.declared.Progress.{Progress}
 use Rattle.rules.specs.Rules.{slots}
 use Rattle.rules.specs.Search.{report_at}
-use Rattle.rules.specs.SearchLaws.{answers_stay}
+use Rattle.rules.proofs.SearchLaws.{answers_stay}
 use Rattle.verdicts.specs.Judged.{standing_by}
 use Rattle.verdicts.proofs.told.Statement.{statement}
 use Rattle.verdicts.proofs.told.Tie as tie

@@ -5,7 +5,7 @@ use Rattle.std.proofs.Common.{ℕ, ◌≡◌, ◌≤◌, ap, ◌∙◌, List, ar
 use borrow.Author.Tests.{lt-ltb, le-ltb, lt-leb, le-leb}
 use Rattle.printing.specs.Printed.{placed, placed_length}
 use Rattle.clean_sheets.specs.declared.Written.{Written}
-use Rattle.clean_sheets.specs.ClaimsHold.{is_short}
+use Rattle.clean_sheets.proofs.ClaimsHold.{is_short}
 use Rattle.sheet_text.specs.PiecesLaws.{same_size, front_length, front_text}
 use Rattle.writing.proofs.write_accepted.Goals as goal
 

@@ -9,14 +9,14 @@ use native.Mathlib.Omega.{arith}
 use types.Run.{OneOf}
 use denote.Enum.Declared.{tag_of}
 use borrow.Author.Rules.{rules}
-use Rattle.integers.specs.SignsLaws.{never}
+use Rattle.integers.proofs.SignsLaws.{never}
 use Rattle.rules.specs.declared.Report.{Report}
 use Rattle.rules.specs.contracts.Report.{the_type}
 use Rattle.rules.specs.Search.{is_refusal}
 use Rattle.held.specs.Held.{held_report}
 use Rattle.clean_sheets.specs.Clean.{clean_of, fitted_in, written_after, written_of, buffer_of}
 use Rattle.clean_sheets.specs.Claims.{AcceptedSearch}
-use Rattle.clean_sheets.specs.ClaimsHold.{count_within, values_accepted, clean_sheets}
+use Rattle.clean_sheets.proofs.ClaimsHold.{count_within, values_accepted, clean_sheets}
 use Rattle.writing.proofs.write_sheet.Statement.{statement}
 use Rattle.writing.proofs.write_sheet.Tie as tie
 

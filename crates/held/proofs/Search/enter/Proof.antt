@@ -6,12 +6,12 @@ use lib.IntN.{ℤ}
 use lib.ListN.{length}
 use mir.Syntax.{w32}
 use mir.Val.{SFits}
-use Rattle.integers.specs.Bounds.{read}
+use Rattle.integers.proofs.Bounds.{read}
 use Rattle.rules.specs.declared.Report.{Report}
 use Rattle.rules.specs.Rules.{slots}
 use Rattle.held.specs.declared.Search.{Search}
 use Rattle.held.specs.declared.Entered.{Entered}
-use Rattle.held.specs.HeldLaws.{stored_by, Stores, stores}
+use Rattle.held.proofs.HeldLaws.{stored_by, Stores, stores}
 use borrow.Author.Rules.{rules}
 use Rattle.held.proofs.Search.enter.Statement.{statement}
 use Rattle.held.proofs.Search.enter.Tie as tie

@@ -5,8 +5,8 @@ use borrow.Author.Rules.{rules}
 use lib.IntN.{nat_abs}
 use mir.Syntax.{w32}
 use mir.Val.{SFits}
-use Rattle.integers.specs.Bounds.{read}
-use Rattle.held.specs.HeldLaws.{open_refused, open_accepted}
+use Rattle.integers.proofs.Bounds.{read}
+use Rattle.held.proofs.HeldLaws.{open_refused, open_accepted}
 use Rattle.held.proofs.Search.reopen.Statement.{statement}
 use Rattle.held.proofs.Search.reopen.Tie as tie
 

@@ -1,0 +1,3 @@
+-- The modules of `proofs/`: laws of the definitions in `specs/`, and examples.
+pub mod Examples
+pub mod SheetLaws

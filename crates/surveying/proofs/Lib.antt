@@ -1,0 +1,4 @@
+-- The modules of `proofs/`: laws of the definitions in `specs/`, and examples.
+pub mod ClaimsHold
+pub mod Examples
+pub mod SurveyLaws

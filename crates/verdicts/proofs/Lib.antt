@@ -1,0 +1,2 @@
+-- The modules of `proofs/`: laws of the definitions in `specs/`, and examples.
+pub mod JudgedLaws
