@@ -1,4 +1,4 @@
-//! Links the proved library, the archive that `rt staticlib busdekker` leaves in the repository.
+//! Links the proved library, the archive that `make library` leaves in the repository.
 
 use std::env;
 use std::path::PathBuf;
@@ -11,7 +11,7 @@ fn main() {
     println!("cargo::rerun-if-changed={}", archive.display());
     if !archive.exists() {
         println!("cargo::error=the proved library target/staticlib/libbusdekker.a is missing");
-        println!("cargo::error=build it with `rt staticlib busdekker` from the repository root");
+        println!("cargo::error=build it with `make library` from the repository root");
         return;
     }
     println!("cargo::rustc-link-search=native={}", folder.display());

@@ -55,9 +55,9 @@ fn main() -> ExitCode {
 /// tried is told in words.
 fn programs(rng: &mut Rng) -> Result<String, String> {
     let mut three = Programs {
-        clean: built("clean", "rt check clean")?,
-        zeroin: built("zeroin", "rt check zeroin")?,
-        old_default: built("old_default", "rt check old_default")?,
+        clean: built("clean", "make target/bin/clean")?,
+        zeroin: built("zeroin", "make target/bin/zeroin")?,
+        old_default: built("old_default", "make target/bin/old_default")?,
         runs: 0,
     };
     let season = built("season", "make target/bin/season")?;
