@@ -47,10 +47,9 @@ fn served(d: Dispatcher, dryer: u32, search: Search) -> Dispatcher
     ensures { result ≡ served_at d dryer search }
 {
     let own = dryer as usize;
-    let count = one_more(d.counts[own]);
     let mut next = with_search(d, dryer, search);
     next.last = dryer;
-    next.counts[own] = count;
+    next.counts[own] = one_more(d.counts[own]);
     next
 }
 

@@ -33,9 +33,9 @@ fn told<'a>(opening: Opening, count: u32, points: &'a [i32], values: &'a [i32]) 
 }
 
 // The outcome, by the report on the answers: a refusal, or the report beside the held search that the sheet is.
-fn settle(e: &Entries, report: Report) -> Entered
-    requires { (Below e.now.count report) × (e.now.count ≤ slots) }
-    ensures { result ≡ settled_by e.now report }
+fn settle(e: Entries, report: Report) -> Entered
+    requires { (Below e.count report) × (e.count ≤ slots) }
+    ensures { result ≡ settled_by e report }
 {
     if let Report::Refused { number, place } = report {
         return refuse(number, place + 2);
@@ -66,5 +66,5 @@ pub fn judge(e: Entries) -> Entered
         return refuse(refused, 1);
     }
     let report = told(e.opening, e.count, &e.points, &e.values);
-    settle(&e, report)
+    settle(e, report)
 }

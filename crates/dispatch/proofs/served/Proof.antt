@@ -8,17 +8,17 @@ use Rattle.dispatching.specs.declared.Dispatcher.{Dispatcher}
 use Rattle.dispatch.proofs.served.Statement.{statement}
 use Rattle.dispatch.proofs.served.Tie as tie
 
-mul-count : tie.Need-offset_bounds-d-own
-mul-count c = search rules
-
-element-copy-out-count : tie.Need-bounds-d-own
-element-copy-out-count c = search rules
-
-one-more-requires : tie.Need-one_more-count-requires
-one-more-requires c κs = search rules
-
 with-search-requires : tie.Need-with_search-next-requires
 with-search-requires c κs = search rules
+
+mul-one-more : tie.Need-offset_bounds-d-own
+mul-one-more c = search rules
+
+element-copy-out-one-more : tie.Need-bounds-d-own
+element-copy-out-one-more c = search rules
+
+one-more-requires : tie.Need-one_more-requires
+one-more-requires c κs = search rules
 
 mul_next : tie.Need-offset_bounds-next-own
 mul_next c = search rules
@@ -30,15 +30,15 @@ returns : tie.Need-returns
 returns c =
     let i = c.args.dryer in
     ap₂ (λ (next : Dispatcher) (n : ℕ). record { searches = next.searches; last = i; counts = set next.counts i n })
-    c.with_search-next.ensures c.one_more-count.ensures
+    c.with_search-next.ensures c.one_more.ensures
 
 pub served_spec : {M : Type 1} → statement M
 served_spec =
     tie.close (tie.spec
-    mul-count
-    element-copy-out-count
-    one-more-requires
     with-search-requires
+    mul-one-more
+    element-copy-out-one-more
+    one-more-requires
     mul_next
     element-write-next
     returns)

@@ -84,12 +84,12 @@ told-requires c κs = search rules
 
 settle-requires : tie.Need-settle-requires
 settle-requires c κs =
-    let s = start_of c.before in
-    (subst (Below s.args.e.count) (sym (told_is c.before)) (below _ _ (leads_to s.args.e) (counted s)), s.requires)
+    let s = start_of c in
+    (subst (Below s.args.e.count) (sym (told_is c)) (below _ _ (leads_to s.args.e) (counted s)), s.requires)
 
 returns-3 : tie.Need-returns
 returns-3 c =
-    let t = c.before.before in
+    let t = c.before in
     let p = refusal_of_lem t in
     let e = (start_of t).args.e in
     c.settle.ensures

@@ -27,7 +27,7 @@ enum-known-report c = search rules
 add-refuse : tie.Need-overflow_add-place
 add-refuse c =
     let s = c.before in
-    let h = subst (Below s.args.e.now.count) c.in-Refused.is s.requires.0 in
+    let h = subst (Below s.args.e.count) c.in-Refused.is s.requires.0 in
     omega (arith, h, s.requires.1)
 
 refuse-requires : tie.Need-refuse-requires
@@ -37,7 +37,7 @@ returns : tie.Need-returns-in-Refused
 returns c = rw c.in-Refused.is c.refuse.ensures
 
 returns-2 : tie.Need-returns
-returns-2 c = going_on c.args.e.now c.args.report c.in_default.in_default-own.keys2
+returns-2 c = going_on c.args.e c.args.report c.in_default.in_default-own.keys2
 
 pub settle_spec : {M : Type 1} → statement M
 settle_spec =
