@@ -5,7 +5,7 @@
 #   make target/bin/season    builds the season report alone, with the C compiler, on the archive that is there; nothing is proved
 #   make target/bin/load      the same for the trial load
 #   make target/bin/survey    the same for the survey of the range
-#   make test                 the gate: everything is proved from nothing and tested
+#   make test                 the gate: everything is proved and tested
 #   make install PREFIX=DIR   installs the header, the archive, its pkg-config file and the programs and commands that `make` built; DESTDIR is put before
 # The archive, the programs and the commands are for x86-64 Linux.
 PREFIX = /usr/local

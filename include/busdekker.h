@@ -10,14 +10,15 @@
  * when its two ends are no further apart than twice the tolerance at the better one. Every number may be given: what is out of range is refused.
  *
  * Promises, for every call and every input. The call ends. It keeps no pointer, allocates nothing, blocks on nothing and has no state of its
- * own, so calls may run at once, in threads or in interrupts, where nothing that one of them may write is lent to another. It reads and writes
- * nothing but what it is lent, whatever that holds. A refusal leaves what was lent as it was: behind a pointer that is not const numbers may be
- * stored again, but they are the same. A busdekker_dispatch_ call needs at most BUSDEKKER_DISPATCHER_STACK bytes of stack, and every other at most
- * BUSDEKKER_STACK, with what its caller puts there to pass and return structs.
+ * own, so calls on different searches or dispatchers may run at once, in threads or in interrupts. It reads and writes nothing but what it is
+ * lent, whatever that holds. A refusal leaves what was lent as it was: behind a pointer that is not const numbers may be stored again, but they
+ * are the same. A busdekker_dispatch_ call needs at most BUSDEKKER_DISPATCHER_STACK bytes of stack, and every other at most BUSDEKKER_STACK, with
+ * what its caller puts there to pass and return structs.
  *
  * Asked of the host. Pointers are not null, point to whole objects, and are aligned as the compiler aligns them. While a call runs, nobody writes
- * what it is lent to read, and nobody else reads or writes what it is lent by a pointer that is not const: a search has one writer, and so has a
- * dispatcher with all its searches.
+ * what it is lent to read. While a call that takes a search or a dispatcher by a pointer that is not const runs, nobody else reads or writes it:
+ * a search has one writer, and so has a dispatcher with all its searches. While busdekker_survey runs, nobody else reads or writes the list that
+ * it is lent; surveys with different lists may run at once.
  *
  * What each function returns and leaves is proved of its code, for every input, in crates/busdekker.
  */
