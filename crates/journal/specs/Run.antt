@@ -12,7 +12,7 @@ use Rattle.rules.specs.declared.Report.{Report}
 use Rattle.rules.specs.declared.Quote.{Quote}
 use Rattle.rules.specs.Rules.{padded, method_of, width_of, allowed}
 use Rattle.rules.specs.Refusals.{Accepted}
-use Rattle.rules.specs.Search.{progress_of, report_of, distance_of, tOf, most_of, quote_of}
+use Rattle.rules.specs.Search.{progress_of, report_of, distance_of, t_of, most_of, quote_of}
 use Rattle.rules.specs.Streak.{streak_over}
 use Rattle.held.specs.declared.Search.{Search}
 use Rattle.held.specs.declared.Entered.{Entered}
@@ -97,8 +97,8 @@ pub record Run (o : Opening) (calls : List Call) : Type 0 where
   -- and these are the texts that the reader takes as the opening and the journal's answers, all of them and no other
   pub spelled : (i : ℕ) (text : List ℕ) → ReadAs text o (journal_at o calls i) ↔ SheetText text o (journal_at o calls i)
   -- the t told for the opening is demand 3's t, and the most answers told are 2 + (m + 1) t
-  pub quoted : quote_of o ≡ Quote.Quoted (tOf o) (most_of o)
-  pub least : Least (λ t. distance_of o ≤ nat_abs o.tolerance * 2 ^ (t + 1)) (tOf o)
+  pub quoted : quote_of o ≡ Quote.Quoted (t_of o) (most_of o)
+  pub least : Least (λ t. distance_of o ≤ nat_abs o.tolerance * 2 ^ (t + 1)) (t_of o)
 
 -- for every accepted opening and every list of calls
 abbrev pub EveryRun : Type 0

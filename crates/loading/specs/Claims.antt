@@ -4,7 +4,7 @@ use Rattle.std.specs.Prelude.{ℕ, suc, ◌≤◌, ◌<◌, ◌≡◌, true, not
 use Rattle.integers.specs.Digits.{Least}
 use Rattle.rules.specs.declared.Report.{Report}
 use Rattle.rules.specs.declared.Quote.{Quote}
-use Rattle.rules.specs.Search.{is_refusal, tOf, most_of, quote_of}
+use Rattle.rules.specs.Search.{is_refusal, t_of, most_of, quote_of}
 use Rattle.held.specs.Held.{values_of, held_report, open_of, enter_of}
 use Rattle.outcomes.specs.Sheet.{sheet_of}
 use Rattle.clean_sheets.specs.Clean.{clean_of}
@@ -41,7 +41,7 @@ pub record Load (seed : ℕ) : Type 0 where
   -- it is accepted, and has stopped
   pub stopped : Stopped (values_drawn seed) (load_of seed).report
   -- within the quoted number of answers
-  pub quoted : quote_of (load_opening seed) ≡ Quote.Quoted (tOf (load_opening seed)) (most_of (load_opening seed))
+  pub quoted : quote_of (load_opening seed) ≡ Quote.Quoted (t_of (load_opening seed)) (most_of (load_opening seed))
   pub within : values_drawn seed ≤ most_of (load_opening seed)
   -- its clean sheet is read as the load
   pub sheet : sheet_of (clean_of (load_of seed).search) ≡ load_of seed

@@ -147,9 +147,9 @@ whole_range_by_default : quote_of (opening (pos 0) (pos 1)) ≡ Quote.Quoted 15 
 unfolding quote_of opening_refusal method_of turns_of digits halvings
 whole_range_by_default = refl
 
-largest_tolerance : quote_of (opening (pos 1) (pos 5000)) ≡ Quote.Quoted 3 14
+largest_tolerance_lem : quote_of (opening (pos 1) (pos 5000)) ≡ Quote.Quoted 3 14
 unfolding quote_of opening_refusal method_of turns_of digits halvings
-largest_tolerance = refl
+largest_tolerance_lem = refl
 
 quote_refused : quote_of (opening (pos 1) (pos 0)) ≡ Quote.Refused 4 0
 unfolding quote_of opening_refusal

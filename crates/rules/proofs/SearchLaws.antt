@@ -23,7 +23,7 @@ use Rattle.rules.proofs.RulesLaws.{start_is, start_counts, Halves, Rule7, streak
 use Rattle.rules.specs.Refusals.{opening_refusal, answer_refusal, too_large, same_side, Accepted}
 use Rattle.rules.proofs.RefusalsLaws.{Opened, opened, Passed, answer_passed, crossing_opposed}
 use Rattle.rules.specs.Search.{is_refused, begin_of, stopped_at, same_side_at, taken_of, entered_at, answered_at, offer_of, take_of, progress_of}
-use Rattle.rules.specs.Search.{answers_of, bracket_report, report_at, is_refusal, distance_of, turns_of, tOf, most_of}
+use Rattle.rules.specs.Search.{answers_of, bracket_report, report_at, is_refusal, distance_of, turns_of, t_of, most_of}
 use Rattle.rules.proofs.BoundLaws.{turns_least, turns_few, Bound, bound_start, bound_below, bound_step}
 
 -- ---- what is known of a bracket that answers have led to
@@ -375,13 +375,13 @@ whole_range = refl
 
 module _ (o : Opening) (op : Opened o) where
   -- t is the least whole number, zero or more, for which τ 2 ^ (t + 1) reaches the distance between the ends
-  pub t_least : Least (λ t. distance_of o ≤ nat_abs o.tolerance * 2 ^ (t + 1)) (tOf o)
+  pub t_least : Least (λ t. distance_of o ≤ nat_abs o.tolerance * 2 ^ (t + 1)) (t_of o)
   t_least = turns_least (nat_abs o.tolerance) (distance_of o) op.tolerance.least
 
-  pub t_few : tOf o ≤ 15
+  pub t_few : t_of o ≤ 15
   t_few =
       let few = turns_few (nat_abs o.tolerance) (distance_of o) highest op.tolerance.least (omega (arith, op.first.most, op.second.most)) in
-      subst (λ (t : ℕ). tOf o ≤ t) whole_range few
+      subst (λ (t : ℕ). t_of o ≤ t) whole_range few
 
   -- no accepted opening needs more than 62 answers by M or 77 by R
   pub most_by_m : method_of o ≡ Method.M → most_of o ≤ 62
@@ -399,7 +399,7 @@ module _ (o : Opening) (op : Opened o) where
       go Method.R e = omega (arith, most_by_r e)
 
 -- an opening with 0 is quoted as by R: 2 + 5t
-pub most_by_default : (o : Opening) → o.method ≡ pos 0 → most_of o ≡ 2 + 5 * tOf o
+pub most_by_default : (o : Opening) → o.method ≡ pos 0 → most_of o ≡ 2 + 5 * t_of o
 unfolding method_of
 most_by_default o e = rw e
 

@@ -143,18 +143,18 @@ linear_of b a up =
 unfoldable pub cross_of : Sample → Sample → Sample → ℤ
 cross_of p q d = p.value *ℤ (q.value -ℤ d.value) *ℤ (pos p.point -ℤ pos d.point)
 
-abbrev pub sOf : Sample → Sample → Sample → ℤ
-sOf b a d = cross_of b a d
+abbrev pub s_of : Sample → Sample → Sample → ℤ
+s_of b a d = cross_of b a d
 
-abbrev pub qOf : Sample → Sample → Sample → ℤ
-qOf b a d = sOf b a d -ℤ cross_of a b d
+abbrev pub q_of : Sample → Sample → Sample → ℤ
+q_of b a d = s_of b a d -ℤ cross_of a b d
 
 unfoldable pub rational_of : Sample → Sample → Sample → Bool → Fraction
 rational_of b a d up =
-    cond (eq_z (qOf b a d) (pos 0)) (cond (eq_z (sOf b a d) (pos 0)) at_better no_estimate)
+    cond (eq_z (q_of b a d) (pos 0)) (cond (eq_z (s_of b a d) (pos 0)) at_better no_estimate)
     (record {
-      num = toward up (neg_ℤ (sOf b a d *ℤ (pos b.point -ℤ pos a.point)));
-      den = qOf b a d;
+      num = toward up (neg_ℤ (s_of b a d *ℤ (pos b.point -ℤ pos a.point)));
+      den = q_of b a d;
     })
 
 -- u doubled, as R does before rounding

@@ -122,12 +122,12 @@ unfoldable pub turns_of : ℕ → ℕ → ℕ
 turns_of τ W = digits ((W - 1) / (2 * τ))
 
 -- t, from τ alone, whatever p is
-abbrev pub tOf : Opening → ℕ
-tOf o = turns_of (nat_abs o.tolerance) (distance_of o)
+abbrev pub t_of : Opening → ℕ
+t_of o = turns_of (nat_abs o.tolerance) (distance_of o)
 
 -- 2 + 4t by M, 2 + 5t by R
 abbrev pub most_of : Opening → ℕ
-most_of o = 2 + (allowed (method_of o) + 1) * tOf o
+most_of o = 2 + (allowed (method_of o) + 1) * t_of o
 
 unfoldable pub quote_of : Opening → Quote
-quote_of o = cond (eqb (opening_refusal o) 0) (Quote.Quoted (tOf o) (most_of o)) (Quote.Refused (opening_refusal o) 0)
+quote_of o = cond (eqb (opening_refusal o) 0) (Quote.Quoted (t_of o) (most_of o)) (Quote.Refused (opening_refusal o) 0)

@@ -15,7 +15,7 @@ use Rattle.rules.specs.declared.Quote.{Quote}
 use Rattle.rules.specs.Rules.{slots, method_of, allowed}
 use Rattle.rules.specs.Refusals.{opening_refusal}
 use Rattle.rules.proofs.RefusalsLaws.{Opened}
-use Rattle.rules.specs.Search.{tOf, quote_of}
+use Rattle.rules.specs.Search.{t_of, quote_of}
 use Rattle.rules.proofs.SearchLaws.{most_slots}
 
 -- ---- the leading zeros of a number and its binary digits make 32
@@ -36,7 +36,7 @@ allowed_few Method.R = omega arith
 
 -- ---- the quote, from the two numbers that make it
 
-module _ (o : Opening) (a t : ℕ) (e : a ≡ allowed (method_of o)) (f : t ≡ tOf o) where
+module _ (o : Opening) (a t : ℕ) (e : a ≡ allowed (method_of o)) (f : t ≡ t_of o) where
   pub quote_fits : Opened o → 2 + (a + 1) * t ≤ slots
   quote_fits op = rw (e, f) (most_slots o op)
 

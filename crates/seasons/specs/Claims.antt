@@ -5,7 +5,7 @@ use Rattle.std.specs.Prelude.{ℕ, ◌+◌, ◌*◌, ◌/◌, ◌%◌, ◌≤◌
 use mathlib.Core.List.{List, [], ◌∷◌, ◌++◌, map, zip_with}
 use Rattle.rules.specs.Rules.{slots}
 use Rattle.rules.specs.declared.Quote.{Quote}
-use Rattle.rules.specs.Search.{is_refusal, tOf, quote_of}
+use Rattle.rules.specs.Search.{is_refusal, t_of, quote_of}
 use Rattle.outcomes.specs.Sheet.{sheet_of}
 use Rattle.clean_sheets.specs.Clean.{rewritten_of}
 use Rattle.seasons.specs.declared.Outcome.{Outcome}
@@ -87,7 +87,7 @@ pub record SheetClaim (text : List ℕ) : Type 0 where
   -- of a sheet that is accepted the method is its opening's, and what is quoted is what was quoted for the opening
   pub method : is_refusal (sheet_of text).report ≡ false → pos (sheet_outcome text).method ≡ (sheet_of text).search.opening.method
   pub quoted : is_refusal (sheet_of text).report ≡ false
-      → quote_of (sheet_of text).search.opening ≡ Quote.Quoted (tOf (sheet_of text).search.opening) (sheet_outcome text).quoted
+      → quote_of (sheet_of text).search.opening ≡ Quote.Quoted (t_of (sheet_of text).search.opening) (sheet_outcome text).quoted
   -- its clean sheet has the same outcome
   pub cleaned : is_refusal (sheet_of text).report ≡ false → sheet_outcome (rewritten_of text) ≡ sheet_outcome text
 

@@ -11,7 +11,7 @@ use mir.Val.{SFits}
 use Rattle.integers.proofs.Bounds.{read}
 use Rattle.rules.specs.Rules.{slots, method_of, allowed}
 use Rattle.rules.proofs.RefusalsLaws.{Opened, opened}
-use Rattle.rules.specs.Search.{distance_of, turns_of, tOf, quote_of}
+use Rattle.rules.specs.Search.{distance_of, turns_of, t_of, quote_of}
 use Rattle.search.proofs.Laws.{allowed_few, quote_fits, quote_is}
 use borrow.Author.Rules.{rules}
 use Rattle.search.proofs.quote.Statement.{statement}
@@ -40,7 +40,7 @@ tolerance_is c =
     let f : SFits w32 (else-of c).args.o.tolerance = search rules in
     c.magnitude-3.ensures ∙ rw (read f)
 
-t_is : (c : tie.After-turns-t) → c.turns-t.result ≡ tOf (else-of c.before).args.o
+t_is : (c : tie.After-turns-t) → c.turns-t.result ≡ t_of (else-of c.before).args.o
 t_is c = c.turns-t.ensures ∙ ap₂ turns_of (tolerance_is c.before) (distance_is c.before.before.before)
 
 streak_is : (c : tie.After-allowed_streak) → c.allowed_streak.result ≡ allowed (method_of (start_of c).args.o)
