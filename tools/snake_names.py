@@ -15,7 +15,11 @@ import re
 import sys
 
 WORD = r"[^\s(){}\[\].;,@\"«»]+"
-SIGNATURE = re.compile(rf"^(\s*)((?:abbrev |unfoldable |pub |data |record |ruleset |let )*)({WORD})((?:\s+(?:\{{[^{{}}]*\}}|\([^()]*\)))*)\s+:(\s+(\S+))?", re.U)
+SIGNATURE = re.compile(
+    rf"^(\s*)((?:abbrev |unfoldable |pub |data |record |ruleset |let )*)({WORD})((?:\s+(?:\{{[^{{}}]*\}}|\([^()]*\)))*)\s+:(\s+(\S+))?", re.U
+)
+# A name in camel case; its first word may be one letter.
+CAMEL = r"[A-Za-z](?:[A-Za-z0-9]*[a-z0-9])?[A-Z][A-Za-z0-9]*"
 COMMENT = re.compile(r"(^|\s)--\s.*$")
 KIT = re.compile(r"^\s*(?:ghost )?use ((?:Rattle\.(?:std|core)\b|mathlib|borrow|mir|Prim|tie|std)[^\s{;]*)\.\{([^}]*)\}")
 
@@ -27,6 +31,7 @@ APART = {
     "crates/walk/proofs/walk_on/Proof.antt": {"other_from": "other_from_at"},
     "crates/clean_sheets/specs/AnswersLaws.antt": {"first-of": "first_of_lem"},
     "crates/replay/specs/CallsLaws.antt": {"call-at": "call_at_lem"},
+    "crates/rules/specs/Examples.antt": {"largest-tolerance": "largest_tolerance_lem"},
     "crates/changing/src/lib.rt": {"changed_search": "claimed"},
     "crates/old_sheets/src/lib.rt": {"changed_sheet": "claimed"},
 }
@@ -46,7 +51,7 @@ def snake(name):
 
 
 def plain(name):
-    return not re.search(r"[A-Za-z0-9ℕℤ]-[A-Za-z0-9ℕℤ]|^[a-z]\S*[a-z0-9][A-Z]", name)
+    return not re.search(r"[A-Za-z0-9ℕℤ]-[A-Za-z0-9ℕℤ]|^[a-z](\S*[a-z0-9])?[A-Z]", name)
 
 
 def read(path):
@@ -109,7 +114,7 @@ def turn_line(line, names, fields):
         return snake(name)
 
     code = re.sub(WORD, lambda m: word(m, code), code)
-    prose = re.sub(r"[A-Za-z][A-Za-z0-9]*[a-z0-9][A-Z][A-Za-z0-9]*", lambda m: snake(m[0]) if m[0] in names | fields else m[0], prose)
+    prose = re.sub(CAMEL, lambda m: snake(m[0]) if m[0] in names | fields else m[0], prose)
     prose = re.sub(r"`[^`]*`", lambda m: re.sub(WORD.replace("`", ""), lambda w: word(w, m[0]) if w[0] in names | fields else w[0], m[0]), prose)
     return code + prose
 
@@ -124,7 +129,7 @@ def turn_rust(line, names, fields):
             return snake(name)
         return name
 
-    line = re.sub(r"(?<![\w-])[A-Za-z][A-Za-z0-9]*[a-z0-9][A-Z][A-Za-z0-9]*(?![\w-])", word, line)
+    line = re.sub(rf"(?<![\w-]){CAMEL}(?![\w-])", word, line)
     if not prose:
         line = re.sub(r"(?<![\w\"'-])[A-Za-z][A-Za-z0-9_ℕℤ]*(?:-[A-Za-z0-9_ℕℤ]+)+(?![\w\"'-])", word, line)
     return line

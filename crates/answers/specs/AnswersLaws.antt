@@ -41,7 +41,8 @@ pub second_ended : (o : Opening) (n : ℕ) (u : ℤ) (other : Bool) (v : ℤ) �
 second_ended o n u other v = go (eqb (answer_refusal false other (too_large v) (same_side_at (Progress.First u) v)) 0)
   where
     go : (b : Bool)
-        → Ended n (cond b (entered_at o (Progress.First u) v) (Progress.Refused (answer_refusal false other (too_large v) (same_side_at (Progress.First u) v)) 1))
+        → Ended n (cond b (entered_at o (Progress.First u) v)
+          (Progress.Refused (answer_refusal false other (too_large v) (same_side_at (Progress.First u) v)) 1))
     go true = tt
     go false = tt
 

@@ -57,7 +57,17 @@ use denote.Exit.{yes, Exit, unchanged, Last, left}
 -- X, with its machine type written out: one, at τ
 abbrev pub at_one : RattleType → Ty → RattleType
 at_one X τ =
-    record { Denot = X.Denot; mir = τ ∷ []; written = X.written; reaches = X.reaches; lives = X.lives; own_val = X.own_val; exit = X.exit; coded = X.coded; shr_at = X.shr_at }
+    record {
+      Denot = X.Denot;
+      mir = τ ∷ [];
+      written = X.written;
+      reaches = X.reaches;
+      lives = X.lives;
+      own_val = X.own_val;
+      exit = X.exit;
+      coded = X.coded;
+      shr_at = X.shr_at;
+    }
 
 pub record Plain : Type 2 where
   pub type : RattleType

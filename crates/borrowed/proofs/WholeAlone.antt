@@ -103,7 +103,8 @@ module _ (S R : Plain) (E : Beside S R) (L : BesideLaws E) where
           walk =
               qed 𝓛 ((‵ (flft κ q) ⊛ ‵ ftrue) ∷ ‵ (owns (MutRef (named 0) κ (row S) ∷ []) x at) ∷ []) ∵
               enter ! C Λ (function step) (vptr b o ∷ []) _ $
-              alloc1 ! (λ l₀. alloc1 ! (λ l₁. alloc1 ! (λ l₂. alloc1 ! (λ l₃. alloc1 ! (λ l₄. alloc0 ! $ params1 ! $ pass1 ! (init ! 6 refl (tt, tt)) $ pass0 ! $
+              alloc1 ! (λ l₀. alloc1 ! (λ l₁. alloc1 ! (λ l₂. alloc1 ! (λ l₃. alloc1 ! (λ l₄. alloc0 ! $
+              params1 ! $ pass1 ! (init ! 6 refl (tt, tt)) $ pass0 ! $
               -- [_4; …; _3; …; _2; …; _1; …; room for _0; …; the token and true; what the parameter owns]
               move ! (11 ∷ []) $ fsplit ! $ fsplit3 ! $ drop ! $ move ! (13 ∷ []) $ split ! $ move ! (2 ∷ 3 ∷ 0 ∷ []) $
               taken_out S ! tt {h = h} b o (λ was.
@@ -127,7 +128,8 @@ module _ (S R : Plain) (E : Beside S R) (L : BesideLaws E) where
               drop ! $ put_back S ! tt (E.left r) (L.is_left r _ is) b o $
               -- [obs; the borrow; the token; true; true; _4 (5); …; _3 (7); …; _2 (9); …; _1 (11); …; _0 (13); …]
               returns ! (look ! 13 refl) $ forget ! 5 refl $ forget ! 7 refl $ forget ! 9 refl $ forget ! 11 refl $ forget ! 13 refl $
-              move ! (13 ∷ 14 ∷ []) $ free1 ! $ move ! (11 ∷ 12 ∷ []) $ free1 ! $ move ! (9 ∷ 10 ∷ []) $ free1 ! $ move ! (7 ∷ 8 ∷ []) $ free1 ! $ move ! (5 ∷ 6 ∷ []) $ free1 ! $ free0 ! $
+              move ! (13 ∷ 14 ∷ []) $ free1 ! $ move ! (11 ∷ 12 ∷ []) $ free1 ! $ move ! (9 ∷ 10 ∷ []) $ free1 ! $
+              move ! (7 ∷ 8 ∷ []) $ free1 ! $ move ! (5 ∷ 6 ∷ []) $ free1 ! $ free0 ! $
               keep ! (0 ∷ 1 ∷ 2 ∷ []) $ by ! (ends_lent 𝓛 S R [] tt tt κ q b o γ h tt tt tt tt (id⊢ 𝓤 _) c g (E.left r) (E.told r)
               (L.is_told r _ is) (unanswered (κ, tt) x g r e))))))))))
 

@@ -8,7 +8,8 @@ use mathlib.Core.List.{[], ◌∷◌, List}
 use lib.ListN.{length}
 use seplogic.Ra.Ura.{Ura}
 use base.Fraction.{full_share}
-use mir.Syntax.{Fn, Callee, ty_ref, local, value_local, named, erased, imm, mut, place, deref, field, copy, rv_opd, addr_of, aggregate, assign, call, seq, return}
+use mir.Syntax.{Fn, Callee, ty_ref, local, value_local, named, erased, imm, mut, place}
+use mir.Syntax.{deref, field, copy, rv_opd, addr_of, aggregate, assign, call, seq, return}
 use mir.Val.{Val, vptr}
 use base.Logic.{SProp, ent, sep, emp, via, fst∗, id⊢}
 use base.Fml.{Fml, GName, Lft, Share, fsep, ftrue, flft, fobs, fbor, fat}
@@ -194,7 +195,8 @@ module _ (S R : Plain) (E : Beside S R) (L : BesideLaws E) where
                 qed 𝓛 ((‵ (flft κ q) ⊛ (‵ (flft κ₁ q₁) ⊛ (‵ (flft κ₂ q₂) ⊛ ‵ ftrue))) ∷
                 ‵ (owns (MutRef (named 0) κ (row S) ∷ ShrSlice (named 1) κ₁ u8 ∷ MutSlice (named 2) κ₂ u8 ∷ []) x at) ∷ []) ∵
                 enter ! C Λ (function step) (vptr b o ∷ s₁ ∷ s₂ ∷ []) _ $
-                alloc1 ! (λ l₀. alloc1 ! (λ l₁. alloc1 ! (λ l₂. alloc1 ! (λ l₃. alloc1 ! (λ l₄. alloc1 ! (λ l₅. alloc1 ! (λ l₆. alloc1 ! (λ l₇. alloc1 ! (λ l₈. alloc0 ! $
+                alloc1 ! (λ l₀. alloc1 ! (λ l₁. alloc1 ! (λ l₂. alloc1 ! (λ l₃. alloc1 ! (λ l₄. alloc1 ! (λ l₅. alloc1 ! (λ l₆.
+                alloc1 ! (λ l₇. alloc1 ! (λ l₈. alloc0 ! $
                 params1 ! $ pass1 ! (init ! 14 refl (tt, tt)) $ pass1 ! (init ! 12 refl (tt, (tt, (record { fits = room₁.0 }, tt)))) $
                 pass1 ! (init ! 10 refl (tt, (tt, (record { fits = room₂.0 }, tt)))) $ pass0 ! $
                 -- [_8; …; _7; …; _6; …; _5; …; _4; …; _3; …; _2; …; _1; …; room for _0; …; the tokens and true; what the parameters own]
@@ -219,8 +221,8 @@ module _ (S R : Plain) (E : Beside S R) (L : BesideLaws E) where
                 returned ! tt step_ended step_clauses to_step w (λ r ws. Told h xs ys r ws.1.1.0) (λ r ws. id⊢ 𝓤 _) (λ r ws e is.
                 -- [what the result owns; what is said of the last values; the slices' tokens and true; the cell; …]
                 move ! (1 ∷ []) $ fsplit ! $ drop ! $ fsplit ! $ drop ! $ fsplit ! $ fsplit ! $ fsplit ! $ move ! (1 ∷ []) $ feq_l ! (λ l. fjoin ! $
-                -- [the last bytes with their borrow; true; what the result owns; the slices' tokens and true; the cell; the open borrow; obs; auth; _8 (8); …; _7 (10); …;
-                -- _6 (12); …; _5 (14); …; _4 (16); …; _3 (18); …; _2 (20); …; _1 (22); …; room for _0 (24); …]
+                -- [the last bytes with their borrow; true; what the result owns; the slices' tokens and true; the cell; the open borrow; obs; auth; _8 (8); …;
+                -- _7 (10); …; _6 (12); …; _5 (14); …; _4 (16); …; _3 (18); …; _2 (20); …; _1 (22); …; room for _0 (24); …]
                 land ! (from ! (stop !)) (init ! 16 refl ((L.lawful 𝓛).typed r _ is).0) $
                 rewrite ! 16 (λ (u : Val). ‵ (fat full_share (mir_e E) l₄ 0 u)) (ap only (L.tells r (w ∷ []) is)) refl $
                 assigns ! (of_opd ! (load ! (from ! (fld ! refl (stop !))) (look_in ! 16 (sub ! 1 refl (whole !))))) (from ! (stop !))
@@ -231,13 +233,13 @@ module _ (S R : Plain) (E : Beside S R) (L : BesideLaws E) where
                 (init ! 24 refl ((R.lawful 𝓛).typed (E.told r) _ (L.is_told r _ is)).0) $
                 -- the borrow is closed at the new struct
                 move ! (4 ∷ 5 ∷ 6 ∷ 7 ∷ []) $ put_back S ! tt (E.left r) (L.is_left r _ is) b o $
-                -- [obs; the borrow; the token; the last bytes with their borrow; true; what the result owns; the slices' tokens and true; _8 (7); …; _7 (9); …; _6 (11); …;
-                -- _5 (13); …; _4 (15); …; _3 (17); …; _2 (19); …; _1 (21); …; _0 (23); …]
+                -- [obs; the borrow; the token; the last bytes with their borrow; true; what the result owns; the slices' tokens and true;
+                -- _8 (7); …; _7 (9); …; _6 (11); …; _5 (13); …; _4 (15); …; _3 (17); …; _2 (19); …; _1 (21); …; _0 (23); …]
                 returns ! (look ! 23 refl) $ forget ! 7 refl $ forget ! 9 refl $ forget ! 11 refl $ forget ! 13 refl $ forget ! 15 refl $ forget ! 17 refl $
                 forget ! 19 refl $ forget ! 21 refl $ forget ! 23 refl $
                 move ! (23 ∷ 24 ∷ []) $ free1 ! $ move ! (21 ∷ 22 ∷ []) $ free1 ! $ move ! (19 ∷ 20 ∷ []) $ free1 ! $ move ! (17 ∷ 18 ∷ []) $ free1 ! $
-                move ! (15 ∷ 16 ∷ []) $ free1 ! $ move ! (13 ∷ 14 ∷ []) $ free1 ! $ move ! (11 ∷ 12 ∷ []) $ free1 ! $ move ! (9 ∷ 10 ∷ []) $ free1 ! $ move ! (7 ∷ 8 ∷ []) $ free1 ! $
-                free0 ! $ keep ! (2 ∷ 6 ∷ 0 ∷ 1 ∷ 3 ∷ []) $ by ! (exits r (L.is_told r _ is) ws.1.1.0 e l))))))))))))))
+                move ! (15 ∷ 16 ∷ []) $ free1 ! $ move ! (13 ∷ 14 ∷ []) $ free1 ! $ move ! (11 ∷ 12 ∷ []) $ free1 ! $ move ! (9 ∷ 10 ∷ []) $ free1 ! $
+                move ! (7 ∷ 8 ∷ []) $ free1 ! $ free0 ! $ keep ! (2 ∷ 6 ∷ 0 ∷ 1 ∷ 3 ∷ []) $ by ! (exits r (L.is_told r _ is) ws.1.1.0 e l))))))))))))))
 
       walks : (step : Callee) (C : Calls 𝓤 H) (Λ : Loops 𝓤 H) → FmC 𝓤 H 𝓛.laws C → Triple 𝓤 (C step) StepC
           → Walks 𝓛 ended stayed (WpFn 𝓤 H C Λ (function step)) c

@@ -138,7 +138,8 @@ module _ (S R P Q : Plain) (E : Beside S R) (L : BesideLaws E) where
               -- the borrow is closed at the new struct
               drop ! $ put_back S ! tt (E.left r) (L.is_left r _ is) b o $
               -- [obs; the borrow; the token; true; what the values own; _6 (5); …; _5 (7); …; _4 (9); …; _3 (11); …; _2 (13); …; _1 (15); …; _0 (17); …]
-              returns ! (look ! 17 refl) $ forget ! 5 refl $ forget ! 7 refl $ forget ! 9 refl $ forget ! 11 refl $ forget ! 13 refl $ forget ! 15 refl $ forget ! 17 refl $
+              returns ! (look ! 17 refl) $ forget ! 5 refl $ forget ! 7 refl $ forget ! 9 refl $ forget ! 11 refl $ forget ! 13 refl $ forget ! 15 refl $
+              forget ! 17 refl $
               move ! (17 ∷ 18 ∷ []) $ free1 ! $ move ! (15 ∷ 16 ∷ []) $ free1 ! $ move ! (13 ∷ 14 ∷ []) $ free1 ! $ move ! (11 ∷ 12 ∷ []) $ free1 ! $
               move ! (9 ∷ 10 ∷ []) $ free1 ! $ move ! (7 ∷ 8 ∷ []) $ free1 ! $ move ! (5 ∷ 6 ∷ []) $ free1 ! $ free0 ! $
               keep ! (0 ∷ 1 ∷ 2 ∷ []) $ by ! (ends_lent 𝓛 S R (value P ∷ value Q ∷ []) (yes, (yes, tt)) (value_stays P, (value_stays Q, tt)) κ q b o

@@ -58,10 +58,10 @@ AllChanged (x ∷ xs) = (changed_sheet x.old ≡ x.new) × ((sheet_of x.old).rep
 
 sheets_hold : AllChanged sheets
 unfolding method_of tolerance_at start_of stopped_of forward_of displacement_of linear_of cross_of rational_of doubled_of opposed partner_of streak_of
-    renewed_of advance_of step_of reach_of offset_of next_of opening_refusal answer_refusal same_side begin_of offer_of take_of answers_of bracket_report report_at
-    records_of fields_of all_digits value_from signed_of number_of field_of answer_of opening_of refused opened entered answers_from records_read entries_of
-    outcome_of sheet_of decimal_within decimal_of number_fields record_with record_of with_points number_text answers_text sheet_text clean_of cleaned_of
-    opening_under sheet_under
+    renewed_of advance_of step_of reach_of offset_of next_of opening_refusal answer_refusal same_side begin_of offer_of take_of answers_of bracket_report
+    report_at records_of fields_of all_digits value_from signed_of number_of field_of answer_of opening_of refused opened entered answers_from records_read
+    entries_of outcome_of sheet_of decimal_within decimal_of number_fields record_with record_of with_points number_text answers_text sheet_text clean_of
+    cleaned_of opening_under sheet_under
 sheets_hold =
     (refl, refl, (refl, refl, (refl, refl, (refl, refl, (refl, refl, (refl, refl, (refl, refl, (refl, refl, (refl, refl, (refl, refl, tt))))))))))
 
@@ -110,6 +110,6 @@ AllHeld (x ∷ xs) =
 
 searches_hold : AllHeld searches
 unfolding method_of tolerance_at start_of stopped_of forward_of displacement_of linear_of cross_of rational_of doubled_of opposed partner_of streak_of
-    renewed_of advance_of step_of reach_of offset_of next_of opening_refusal answer_refusal same_side begin_of offer_of take_of progress_of bracket_report report_at
-    standing_of held_report decimal_within decimal_of with_points number_text answers_text sheet_text opening_under clean_under changed_search
+    renewed_of advance_of step_of reach_of offset_of next_of opening_refusal answer_refusal same_side begin_of offer_of take_of progress_of bracket_report
+    report_at standing_of held_report decimal_within decimal_of with_points number_text answers_text sheet_text opening_under clean_under changed_search
 searches_hold = (refl, refl, (refl, refl, (refl, refl, (refl, refl, (refl, refl, (refl, refl, tt))))))

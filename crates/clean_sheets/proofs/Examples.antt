@@ -18,7 +18,8 @@ use Rattle.lines.specs.Decimal.{decimal_within, decimal_of, number_fields}
 use Rattle.printing.specs.Printed.{record_with, record_of, placed}
 use Rattle.outcomes.specs.Sheet.{outcome_of, sheet_of}
 use Rattle.clean_sheets.specs.declared.Written.{Written}
-use Rattle.clean_sheets.specs.Clean.{with_points, number_text, answers_text, sheet_text, clean_of, longest_sheet, written_of, buffer_of, cleaned_of, rewritten_of}
+use Rattle.clean_sheets.specs.Clean.{with_points, number_text, answers_text, sheet_text, clean_of}
+use Rattle.clean_sheets.specs.Clean.{longest_sheet, written_of, buffer_of, cleaned_of, rewritten_of}
 
 -- the values held, and 7 in the slots past them
 abbrev holds : Opening → List ℤ → Search
@@ -138,8 +139,8 @@ AllCleaned [] = Unit {0}
 AllCleaned (x ∷ xs) = (rewritten_of x.before ≡ x.after) × AllCleaned xs
 
 cleanings_hold : AllCleaned cleanings
-unfolding tolerance_at start_of stopped_of method_of forward_of displacement_of linear_of step_of reach_of offset_of next_of opening_refusal answer_refusal same_side
-    begin_of offer_of take_of answers_of bracket_report report_at records_of fields_of all_digits value_from signed_of number_of field_of answer_of
+unfolding tolerance_at start_of stopped_of method_of forward_of displacement_of linear_of step_of reach_of offset_of next_of opening_refusal answer_refusal
+    same_side begin_of offer_of take_of answers_of bracket_report report_at records_of fields_of all_digits value_from signed_of number_of field_of answer_of
     opening_of refused opened entered answers_from records_read entries_of outcome_of sheet_of decimal_within decimal_of number_fields record_with record_of
     with_points number_text answers_text sheet_text clean_of cleaned_of
 cleanings_hold = (refl, (refl, (refl, (refl, (refl, (refl, (refl, (refl, tt))))))))

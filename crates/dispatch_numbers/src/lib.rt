@@ -1,4 +1,5 @@
 // The calls on a dispatcher with what they tell as plain numbers, by value: what the interface for C does to the host's own dispatcher.
+// An answer entered there keeps to its limit of stack by calling dispatch::enter itself.
 #![tactic(auto)]
 
 ghost use Rattle.std.specs.Prelude.{◌≡◌};

@@ -1,9 +1,11 @@
 -- The laws of the counts: what one call does to each of them, to their sum and to the old count; and then a run, by induction. Besides, that
 -- they alter nothing else.
 -- Assumes nothing.
-use Rattle.std.specs.Prelude.{ℕ, zero, suc, ◌+◌, ◌≤◌, ◌<◌, min, ◌≡◌, ◌≢◌, Bool, true, false, cond, not, List, [], ◌∷◌, ◌++◌, ltb, eqb, length, get_or, set, replicate}
+use Rattle.std.specs.Prelude.{ℕ, zero, suc, ◌+◌, ◌≤◌, ◌<◌, min, ◌≡◌, ◌≢◌, Bool, true, false, cond}
+use Rattle.std.specs.Prelude.{not, List, [], ◌∷◌, ◌++◌, ltb, eqb, length, get_or, set, replicate}
 use Rattle.std.proofs.Math.Path.{refl}
-use Rattle.std.proofs.Common.{sym, ap, ap₂, subst, ◌∙◌, arith, ltb-true, ltb-false, eqb-true, eq-eqb, length-set, length-append, get_or-set_same, get_or-set_other}
+use Rattle.std.proofs.Common.{sym, ap, ap₂, subst, ◌∙◌, arith, ltb-true, ltb-false, eqb-true}
+use Rattle.std.proofs.Common.{eq-eqb, length-set, length-append, get_or-set_same, get_or-set_other}
 use Rattle.std.proofs.lemmas.Bool.{eqb-false}
 use Rattle.rules.specs.declared.Opening.{Opening}
 use Rattle.rules.specs.declared.Report.{Report}
@@ -100,7 +102,8 @@ module _ (d : Dispatcher) (six : length d.counts ≡ dryers) where
   pub one_more : (i : ℕ) (c : Call) → served_by d c ≡ i ∷ [] → count_at (call_of d c).dispatcher i ≡ raised (count_at d i)
   one_more i c e =
       let once : how_often i (i ∷ []) ≡ 1 = simp (eq-eqb i i refl) in
-      count_call c i ∙ ap (λ (js : List ℕ). count_after (count_at d i) (how_often i js)) e ∙ ap (count_after (count_at d i)) once ∙ sym (raised_is (count_at d i))
+      count_call c i ∙ ap (λ (js : List ℕ). count_after (count_at d i) (how_often i js)) e
+      ∙ ap (count_after (count_at d i)) once ∙ sym (raised_is (count_at d i))
 
   -- the sum of the six up to the ceiling, by whom a call serves
   sum_call : (c : Call) → min (sum_of (call_of d c).dispatcher.counts) ceiling ≡ count_after (min (sum_of d.counts) ceiling) (length (served_by d c))

@@ -108,7 +108,8 @@ module _ (o : Opening) (answers : List Answer) (a : Answer) where
   unfolding told_of
   takes_it = go (takes o answers a)
     where
-      go : (b : Bool) → is_refusal (cond b (journal_report o (answers ++ (a ∷ []))) (Report.Refused (refusal_of o answers a) (length answers))) ≡ false → b ≡ true
+      go : (b : Bool) → is_refusal (cond b (journal_report o (answers ++ (a ∷ []))) (Report.Refused (refusal_of o answers a) (length answers))) ≡ false
+          → b ≡ true
       go true t = refl
       go false t = never t
 

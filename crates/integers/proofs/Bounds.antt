@@ -1,8 +1,10 @@
 -- Whole numbers by their absolute value. A range of a signed number is one bound in ℕ, `Within z k`, which `omega` reads; these
 -- laws carry such bounds through the operations, to the widths of the machine, and to the bits that it computes on.
 -- Assumes nothing.
-use Rattle.std.specs.Prelude.{◌≡◌, refl, Bool, true, false, not, cond, ℕ, zero, suc, ◌+◌, ◌-◌, ◌*◌, ◌/◌, ◌^◌, ◌≤◌, ◌<◌, T, ltb, eqb, ℤ, pos, negsuc, neg_ℤ, nat_abs, ◌+ℤ◌, ◌-ℤ◌, ◌*ℤ◌, ◌<ℤ◌}
-use Rattle.std.proofs.Common.{sym, ap, ◌∙◌, le_refl, le_trans, le_of_eq, lt_of_le_of_lt, mul-le-mul, div-le_self, arith, ltb→lt, lt→ltb, to_z-of_z, ltb-true, eqb-true}
+use Rattle.std.specs.Prelude.{◌≡◌, refl, Bool, true, false, not, cond, ℕ, zero, suc, ◌+◌, ◌-◌, ◌*◌, ◌/◌, ◌^◌}
+use Rattle.std.specs.Prelude.{◌≤◌, ◌<◌, T, ltb, eqb, ℤ, pos, negsuc, neg_ℤ, nat_abs, ◌+ℤ◌, ◌-ℤ◌, ◌*ℤ◌, ◌<ℤ◌}
+use Rattle.std.proofs.Common.{sym, ap, ◌∙◌, le_refl, le_trans, le_of_eq, lt_of_le_of_lt, mul-le-mul}
+use Rattle.std.proofs.Common.{div-le_self, arith, ltb→lt, lt→ltb, to_z-of_z, ltb-true, eqb-true}
 use Rattle.std.proofs.Math.IntN.{sub_ℕ, +ℤ_idl}
 use Rattle.std.specs.Int.Signed.{mag, non_neg, quot_z, lt_z, nat_abs-le}
 use Rattle.std.specs.Int.{Width, w64}

@@ -10,7 +10,8 @@ use Rattle.rules.specs.declared.Answer.{Answer}
 use Rattle.rules.specs.declared.Bracket.{Bracket}
 use Rattle.rules.specs.declared.Report.{Report}
 use Rattle.rules.specs.declared.Report.TheVariants.{Next, Stop, Refused}
-use Rattle.rules.specs.Rules.{padded, method_of, tolerance_at, start_of, lower_of, upper_of, width_of, stopped_of, forward_of, displacement_of, linear_of, cross_of}
+use Rattle.rules.specs.Rules.{padded, method_of, tolerance_at, start_of, lower_of, upper_of}
+use Rattle.rules.specs.Rules.{width_of, stopped_of, forward_of, displacement_of, linear_of, cross_of}
 use Rattle.rules.specs.Rules.{rational_of, doubled_of, opposed, partner_of, streak_of, renewed_of, advance_of, step_of, reach_of, offset_of, next_of}
 use Rattle.rules.specs.Refusals.{opening_refusal, answer_refusal, same_side}
 use Rattle.rules.specs.Search.{turns_of, most_of, begin_of, offer_of, take_of, progress_of, bracket_report, report_at}

@@ -10,7 +10,8 @@ use Rattle.rules.specs.Refusals.{opening_refusal, answer_refusal, same_side}
 use Rattle.rules.specs.Search.{begin_of, offer_of, take_of, progress_of, bracket_report, report_at, turns_of}
 use Rattle.held.specs.declared.Entered.{Entered}
 use Rattle.held.specs.Held.{blank, standing_of, held_report}
-use Rattle.loading.specs.Loading.{next_draw, draw_of, drawn_point, drawn_second, drawn_opening, load_opening, drawn_value, placed_value, load_value, load_values}
+use Rattle.loading.specs.Loading.{next_draw, draw_of, drawn_point, drawn_second, drawn_opening}
+use Rattle.loading.specs.Loading.{load_opening, drawn_value, placed_value, load_value, load_values}
 use Rattle.loading.specs.Loading.{stopped_after, first_below, values_drawn, load_of}
 
 -- ---- draws
@@ -125,8 +126,8 @@ loads =
     ∷ []
 
 loads_work : map (λ (x : Example). load_of x.seed) loads ≡ map (λ (x : Example). x.load) loads
-unfolding next_draw draw_of drawn_point drawn_second drawn_opening load_opening drawn_value placed_value load_value load_values stopped_after first_below values_drawn load_of
-    held_report standing_of progress_of begin_of take_of offer_of report_at bracket_report opening_refusal answer_refusal same_side turns_of digits halvings method_of
-    tolerance_at start_of stopped_of forward_of displacement_of linear_of cross_of rational_of doubled_of opposed partner_of streak_of renewed_of advance_of step_of reach_of
-    offset_of next_of
+unfolding next_draw draw_of drawn_point drawn_second drawn_opening load_opening drawn_value placed_value load_value load_values stopped_after first_below
+    values_drawn load_of held_report standing_of progress_of begin_of take_of offer_of report_at bracket_report opening_refusal answer_refusal same_side
+    turns_of digits halvings method_of tolerance_at start_of stopped_of forward_of displacement_of linear_of cross_of rational_of doubled_of opposed partner_of
+    streak_of renewed_of advance_of step_of reach_of offset_of next_of
 loads_work = refl

@@ -191,7 +191,8 @@ unfolding report_at bracket_report
 bracket_stopped o k n s e =
     record { lower = lower_of k; upper = upper_of k; better = k.better.point; told = simp s (ap (Report.Stop (lower_of k) (upper_of k) k.better.point) e) }
 
-stage_stopped : (seed n : ℕ) (p : Progress) → Stage seed n p → CountedAt n p → stopped_at (load_opening seed) p ≡ true → Stopped n (report_at (load_opening seed) p)
+stage_stopped : (seed n : ℕ) (p : Progress) → Stage seed n p → CountedAt n p → stopped_at (load_opening seed) p ≡ true
+    → Stopped n (report_at (load_opening seed) p)
 stage_stopped seed zero p e c s = never (sym (rw e at s))
 stage_stopped seed (suc zero) p e c s = never (sym (rw e at s))
 stage_stopped seed (suc (suc n)) p e c s =

@@ -16,7 +16,8 @@ use Rattle.forms.specs.declared.Entries.{Entries}
 use Rattle.forms.specs.declared.AnswerRecord.{AnswerRecord}
 use Rattle.forms.specs.declared.OpeningRecord.{OpeningRecord}
 use Rattle.forms.specs.Text.{records_of}
-use Rattle.forms.specs.Entries.{longest_text, opening_place, answer_place, answer_of, opening_of, opened, entered, refused, answers_from, records_read, entries_of}
+use Rattle.forms.specs.Entries.{longest_text, opening_place, answer_place, answer_of, opening_of}
+use Rattle.forms.specs.Entries.{opened, entered, refused, answers_from, records_read, entries_of}
 use Rattle.outcomes.specs.Sheet.{leads_to, refused_at, kept_of, settled_as, outcome_of, judged, sheet_of}
 
 -- ---- where the answers lead

@@ -91,7 +91,8 @@ module _ (s : Search) (request : List ℕ) (requests : List (List ℕ)) where
   abbrev next : Search
   next = (exchange_of s request).search
 
-  one_more : Ends next (search_then next requests) (accepted_in next requests) → Ends s (search_then s (request ∷ requests)) (accepted_in s (request ∷ requests))
+  one_more : Ends next (search_then next requests) (accepted_in next requests)
+      → Ends s (search_then s (request ∷ requests)) (accepted_in s (request ∷ requests))
   unfolding search_then accepted_in calls_for search_after reports_of
   one_more r = go (enters s request) refl
     where

@@ -110,8 +110,8 @@ exchanges =
 
 exchanges_hold : AllHold exchanges
 unfolding method_of tolerance_at start_of stopped_of forward_of displacement_of linear_of cross_of rational_of doubled_of opposed partner_of streak_of
-    renewed_of advance_of step_of reach_of offset_of next_of opening_refusal answer_refusal same_side begin_of offer_of take_of progress_of bracket_report report_at
-    standing_of held_report enter_of registers_of signed_of entry_of read_fault write_fault fault_of top_bit_set word_bytes exchange_of
+    renewed_of advance_of step_of reach_of offset_of next_of opening_refusal answer_refusal same_side begin_of offer_of take_of progress_of bracket_report
+    report_at standing_of held_report enter_of registers_of signed_of entry_of read_fault write_fault fault_of top_bit_set word_bytes exchange_of
 exchanges_hold =
     (refl, (refl, (refl, (refl, (refl, (refl, (refl, (refl, (refl, (refl, (refl, (refl, (refl, (refl, (refl, (refl, (refl, (refl, (refl, tt)))))))))))))))))))
 
@@ -145,8 +145,8 @@ misfits =
 
 misfits_hold : AllHold misfits
 unfolding method_of tolerance_at start_of stopped_of forward_of displacement_of linear_of cross_of rational_of doubled_of opposed partner_of streak_of
-    renewed_of advance_of step_of reach_of offset_of next_of opening_refusal answer_refusal same_side begin_of offer_of take_of progress_of bracket_report report_at
-    standing_of held_report enter_of registers_of signed_of entry_of read_fault write_fault fault_of top_bit_set word_bytes exchange_of
+    renewed_of advance_of step_of reach_of offset_of next_of opening_refusal answer_refusal same_side begin_of offer_of take_of progress_of bracket_report
+    report_at standing_of held_report enter_of registers_of signed_of entry_of read_fault write_fault fault_of top_bit_set word_bytes exchange_of
 misfits_hold =
     (refl, (refl, (refl, (refl, (refl, (refl, (refl, (refl, (refl, (refl, (refl, (refl, (refl, (refl, (refl, (refl, (refl, (refl, tt))))))))))))))))))
 
@@ -209,8 +209,9 @@ AllCalled (c ∷ cs) =
 
 calls_hold : AllCalled calls
 unfolding method_of tolerance_at start_of stopped_of forward_of displacement_of linear_of cross_of rational_of doubled_of opposed partner_of streak_of
-    renewed_of advance_of step_of reach_of offset_of next_of opening_refusal answer_refusal same_side begin_of offer_of take_of progress_of bracket_report report_at
-    standing_of held_report enter_of registers_of signed_of entry_of read_fault write_fault fault_of top_bit_set word_bytes exchange_of exchanged_of reply_buffer
+    renewed_of advance_of step_of reach_of offset_of next_of opening_refusal answer_refusal same_side begin_of offer_of take_of progress_of bracket_report
+    report_at standing_of held_report enter_of registers_of signed_of entry_of read_fault write_fault fault_of top_bit_set word_bytes exchange_of exchanged_of
+    reply_buffer
 calls_hold = (refl, refl, (refl, refl, (refl, refl, (refl, refl, (refl, refl, tt)))))
 
 -- ---- a run: an entry, a read, a refused value, an entry; what it leaves, the values accepted, and those offered
@@ -226,7 +227,7 @@ record Runs : Type 0 where
 
 run_holds : Runs
 unfolding method_of tolerance_at start_of stopped_of forward_of displacement_of linear_of cross_of rational_of doubled_of opposed partner_of streak_of
-    renewed_of advance_of step_of reach_of offset_of next_of opening_refusal answer_refusal same_side begin_of offer_of take_of progress_of bracket_report report_at
-    standing_of held_report enter_of registers_of signed_of entry_of read_fault write_fault fault_of top_bit_set word_bytes exchange_of search_then accepted_in
-    offers_in
+    renewed_of advance_of step_of reach_of offset_of next_of opening_refusal answer_refusal same_side begin_of offer_of take_of progress_of bracket_report
+    report_at standing_of held_report enter_of registers_of signed_of entry_of read_fault write_fault fault_of top_bit_set word_bytes exchange_of search_then
+    accepted_in offers_in
 run_holds = record { ends = refl; accepted = refl; tried = refl }

@@ -2,7 +2,8 @@
 -- halvings that suffice, and each step leaves less of (m + 1) t, with the streak counted in.
 -- Assumes nothing.
 use Rattle.std.specs.Prelude.{ℕ, ◌+◌, ◌-◌, ◌*◌, ◌/◌, ◌^◌, ◌≤◌, ◌<◌, ◌≡◌}
-use Rattle.std.proofs.Common.{zero-le, ◌∙◌, inl, inr, le_trans, pow-suc, mul_comm, mul_assoc, mul-add, mul-one, mul-le-mul_left, mul-le-mul, div-mul-le_self, le-div_iff_mul-le, div-lt_iff_lt-mul, add-one, arith, pow_pos}
+use Rattle.std.proofs.Common.{zero-le, ◌∙◌, inl, inr, le_trans, pow-suc, mul_comm, mul_assoc, mul-add, mul-one, mul-le-mul_left}
+use Rattle.std.proofs.Common.{mul-le-mul, div-mul-le_self, le-div_iff_mul-le, div-lt_iff_lt-mul, add-one, arith, pow_pos}
 use Rattle.std.proofs.Math.Path.{sym, ap}
 use Rattle.std.proofs.Math.Nat.{div-div-eq-div-mul}
 use Rattle.integers.specs.Digits.{digits, Least}

@@ -1,7 +1,8 @@
 -- Rules 1 to 8 of document 01, in its order and its terms, 2 and 3 with the tolerance at b of request 2026-07: of a bracket, b is `better`,
 -- c `other`, a `previous`, d `third`, L its width and s its streak; F(p) is the value of the sample p.
 -- Assumes nothing.
-use Rattle.std.specs.Prelude.{ℕ, ◌+◌, ◌-◌, ◌*◌, ◌/◌, ◌≤◌, min, max, Bool, true, false, cond, ◌||◌, List, ◌++◌, leb, eqb, ℤ, pos, neg_ℤ, nat_abs, ◌-ℤ◌, ◌*ℤ◌, length, replicate}
+use Rattle.std.specs.Prelude.{ℕ, ◌+◌, ◌-◌, ◌*◌, ◌/◌, ◌≤◌, min, max, Bool, true, false, cond, ◌||◌, List}
+use Rattle.std.specs.Prelude.{◌++◌, leb, eqb, ℤ, pos, neg_ℤ, nat_abs, ◌-ℤ◌, ◌*ℤ◌, length, replicate}
 use Rattle.std.specs.Int.Signed.{le_z, lt_z, quot_z}
 use Rattle.integers.specs.Signs.{eq_z}
 use Rattle.rules.specs.declared.Opening.{Opening}

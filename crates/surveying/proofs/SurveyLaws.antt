@@ -1,8 +1,10 @@
 -- Laws of the definitions, for the claims and for the code: when a survey is misplaced, its points as numbers, one position more, the list written so far,
 -- and what is told, by the tests in their order.
 -- Assumes nothing.
-use Rattle.std.specs.Prelude.{ℕ, zero, suc, ◌+◌, ◌-◌, ◌*◌, ◌≤◌, ◌<◌, ◌≡◌, refl, Bool, true, false, ◌||◌, List, [], ◌∷◌, ◌++◌, ltb, ℤ, pos, negsuc, nat_abs, ◌+ℤ◌, ◌*ℤ◌, length, get_or, drop, set}
-use Rattle.std.proofs.Common.{sym, ap, ap₂, subst, ◌∙◌, append-nil, le_refl, le_trans, zero-add, suc-add, suc-mul, zero-mul, mul-le-mul, add-one, arith, length-append, length-set, drop-cons}
+use Rattle.std.specs.Prelude.{ℕ, zero, suc, ◌+◌, ◌-◌, ◌*◌, ◌≤◌, ◌<◌, ◌≡◌, refl, Bool, true, false, ◌||◌, List}
+use Rattle.std.specs.Prelude.{[], ◌∷◌, ◌++◌, ltb, ℤ, pos, negsuc, nat_abs, ◌+ℤ◌, ◌*ℤ◌, length, get_or, drop, set}
+use Rattle.std.proofs.Common.{sym, ap, ap₂, subst, ◌∙◌, append-nil, le_refl, le_trans, zero-add, suc-add, suc-mul}
+use Rattle.std.proofs.Common.{zero-mul, mul-le-mul, add-one, arith, length-append, length-set, drop-cons}
 use Rattle.std.proofs.lemmas.List.{map-append, length-map, set_at}
 use borrow.Author.Tests.{lt-ltb, le-ltb, ltb-false}
 use Rattle.std.proofs.Math.IntN.{+ℤ_idr}

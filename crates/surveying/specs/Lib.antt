@@ -1,3 +1,4 @@
--- What must be believed stands in Survey and Claims, which hold no proofs; Examples, in proofs/, works them by hand. The claims are proved in ClaimsHold, in proofs/ too.
+-- What must be believed stands in Survey and Claims, which hold no proofs; Examples, in proofs/, works them by hand. The claims are proved
+-- in ClaimsHold, in proofs/ too.
 pub mod Survey
 pub mod Claims

@@ -20,7 +20,8 @@ use Rattle.interpolation.proofs.forward.Statement.{statement}
 use Rattle.interpolation.proofs.forward.Tie as tie
 
 -- a quotient of a number that is not negative by one above 0
-quot_range : (L : ℕ) (n d : ℤ) → pos 0 <ℤ d → lt_z n (pos 0) ≡ false → le_z (pos 2 *ℤ n) (pos L *ℤ d) ≡ true → T (non_neg (quot_z n d)) × (nat_abs (quot_z n d) ≤ L)
+quot_range : (L : ℕ) (n d : ℤ) → pos 0 <ℤ d → lt_z n (pos 0) ≡ false → le_z (pos 2 *ℤ n) (pos L *ℤ d) ≡ true
+    → T (non_neg (quot_z n d)) × (nat_abs (quot_z n d) ≤ L)
 quot_range L (pos n) (pos d) p e h =
     (tt, div-le_of_le-mul d (omega (arith, leb-true (2 * n) (L * d) h, mul_comm L d)))
 quot_range L (pos n) (negsuc d) p e h = absurd p.lt

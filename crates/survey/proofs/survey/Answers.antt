@@ -24,7 +24,8 @@ as_number f e p = ap pos (e ∙ ap nat_abs (read f)) ∙ sym p
 
 pub returns-then-is_misplaced : goal.returns-then-is_misplaced
 returns-then-is_misplaced c =
-    let t = says_misplaced _ _ c.args.values.now (length c.args.list.now) (tested (length c.args.values.now) c.ranges.lowest c.ranges.pitch c.if-is_misplaced.ensures) in
+    let placed = tested (length c.args.values.now) c.ranges.lowest c.ranges.pitch c.if-is_misplaced.ensures in
+    let t = says_misplaced _ _ c.args.values.now (length c.args.list.now) placed in
     record { value = sym t; list_after = sym (list_after _ _ _ _ _ t); every_survey = every_survey }
 
 pub overflow_cast-place : goal.overflow_cast-place
@@ -36,7 +37,8 @@ pub returns-then-i-values : goal.returns-then-i-values
 returns-then-i-values c =
     let h = c.first_large-i.ensures in
     let less = subst (λ (k : ℕ). k < length c.args.values.now) h c.if-i-values.true in
-    let t = says_large _ _ c.args.values.now (length c.args.list.now) (tested (length c.args.values.now) c.ranges.lowest c.ranges.pitch c.if-is_misplaced.ensures) less in
+    let going = tested (length c.args.values.now) c.ranges.lowest c.ranges.pitch c.if-is_misplaced.ensures in
+    let t = says_large _ _ c.args.values.now (length c.args.list.now) going less in
     record { value = ap (Surveyed.Refused 7) h ∙ sym t; list_after = sym (list_after _ _ _ _ _ t); every_survey = every_survey }
 
 pub count_pairs-n-requires : goal.count_pairs-n-requires
