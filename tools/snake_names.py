@@ -4,8 +4,8 @@
 usage: python3 tools/snake_names.py [--list]
 
 Run once, at the top, after the toolchain's own script for an older repository. A definition, a lemma, a field or a constructor that
-crates/*/specs or crates/*/proofs declares as partnerOf or filter-append becomes partner_of or filter_append, wherever these files, the
-clauses of src/ and the must-fail edits name it. What Rattle makes (goals, the labels behind a dot) and what a library declares stay.
+crates/*/specs or crates/*/proofs declares as partnerOf or filter-append becomes partner_of or filter_append, wherever these files and
+the clauses of src/ name it. What Rattle makes (goals, the labels behind a dot) and what a library declares stay; so do must-fail edits.
 Two names that would become one are told, and nothing is written. --list prints the names, old and new, and writes nothing.
 """
 
