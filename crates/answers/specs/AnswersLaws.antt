@@ -42,7 +42,7 @@ second_ended o n u other v = go (eqb (answer_refusal false other (too_large v) (
   where
     go : (b : Bool)
         → Ended n (cond b (entered_at o (Progress.First u) v)
-          (Progress.Refused (answer_refusal false other (too_large v) (same_side_at (Progress.First u) v)) 1))
+        (Progress.Refused (answer_refusal false other (too_large v) (same_side_at (Progress.First u) v)) 1))
     go true = tt
     go false = tt
 

@@ -1,7 +1,7 @@
 -- One call of a search that holds a journal answers as the journal does, and leaves the search that holds the journal's next state. The
 -- reader gives the journal's report on a sheet of it, and its numbers can be spelled.
 -- Assumes nothing.
-use Rattle.std.specs.Prelude.{ℕ, ◌+◌, ◌≤◌, ◌<◌, ◌≡◌, Bool, not, List, [], ◌∷◌, ◌++◌, eqb, ℤ, pos, length}
+use Rattle.std.specs.Prelude.{ℕ, ◌≤◌, ◌<◌, ◌≡◌, Bool, not, List, [], ◌∷◌, ◌++◌, eqb, ℤ, pos, length}
 use Rattle.std.proofs.Math.Path.{refl, sym, ap}
 use Rattle.std.proofs.Common.{ap₂, ◌∙◌, arith, take_at}
 use Rattle.std.proofs.Math.Bool.{true, false, cond}

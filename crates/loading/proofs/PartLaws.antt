@@ -1,7 +1,7 @@
 -- The laws of the parts of a load, the held searches of its first n values: where each stands so long as the search had not stopped before, how many
 -- values are drawn, and that each value is entered at the point called for.
 -- Assumes nothing.
-use Rattle.std.specs.Prelude.{ℕ, zero, suc, ◌≤◌, ◌<◌, ◌≡◌, refl, Bool, true, false, cond, not, [], ◌∷◌, ltb, pos, length}
+use Rattle.std.specs.Prelude.{ℕ, zero, suc, ◌≤◌, ◌<◌, ◌≡◌, refl, Bool, true, false, cond, [], ◌∷◌, ltb, pos, length}
 use Rattle.std.proofs.Common.{zero-le, subst, ◌∙◌, arith, eq-eqb, ltb-true, ltb-false, length-append}
 use Rattle.std.proofs.Math.Path.{sym, ap}
 use Rattle.integers.specs.Digits.{Least}

@@ -54,4 +54,4 @@ pub put_fields_spec : {M : Type 1} → statement M
 put_fields_spec =
     tie.close
     (tie.spec invariant-loop decreases-loop loop-holds put-byte-requires mul-put-number shared-slice-read-put-number put-number-requires add-i
-      loop-less loop-again returns)
+    loop-less loop-again returns)

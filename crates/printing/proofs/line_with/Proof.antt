@@ -1,6 +1,5 @@
 -- `printing::line_with` meets its contract: it puts the record's three parts one after the other, and each fits, since all do.
 -- Assumes nothing.
-use borrow.Author.Rules.{rules}
 use Prim.Native.Nat.{ℕ}
 use mathlib.Core.Path.{◌≡◌}
 use mathlib.Core.List.{List}
