@@ -30,7 +30,7 @@ returns-then-i-from c =
     let l = c.loop-digits in
     let s = c.args.s.now in
     let spent : digit_count (5 - l.digits) (drop l.i s) ≡ 0 = elim c.loop-digits-test.branch [
-      | else-loop-digits-test w ↦ no_sixth l.digits _ w.loop-digits-test.false
+      | else-loop-digits-test w ↦ no_sixth l.digits _ (omega (arith, w.loop-digits-test.false))
       | then-loop-digits-test+then-d-eq-NO_DIGIT w ↦
           no_digit _ s l.i (digit_missing s l.i (sym w.digit_at-d.ensures ∙ w.if-d-eq-NO_DIGIT.true))
     ] in
@@ -44,7 +44,7 @@ returns c =
     let l = c.loop-digits in
     let s = c.args.s.now in
     let spent : digit_count (5 - l.digits) (drop l.i s) ≡ 0 = elim c.loop-digits-test.branch [
-      | else-loop-digits-test w ↦ no_sixth l.digits _ w.loop-digits-test.false
+      | else-loop-digits-test w ↦ no_sixth l.digits _ (omega (arith, w.loop-digits-test.false))
       | then-loop-digits-test+then-d-eq-NO_DIGIT w ↦
           no_digit _ s l.i (digit_missing s l.i (sym w.digit_at-d.ensures ∙ w.if-d-eq-NO_DIGIT.true))
     ] in
