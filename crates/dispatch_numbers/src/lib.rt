@@ -1,5 +1,5 @@
 // The calls on a dispatcher with what they tell as plain numbers, by value: what the interface for C does to the host's own dispatcher.
-// An answer entered there keeps to its limit of stack by calling dispatch::enter itself.
+// busdekker_dispatch_enter alone calls dispatch::enter itself, for its limit of stack.
 #![tactic(auto)]
 
 ghost use Rattle.std.specs.Prelude.{◌≡◌};
