@@ -1,7 +1,7 @@
--- `records::read_answers` meets its contract: a record that is read is entered and taken off the rest, so that the loop's invariant holds
--- of the rest; the entries are full, or the record is malformed, where it is refused, and after the loop no record is left.
+-- `records::read_answers` meets its contract: a record that is read is entered and taken off the rest, and the invariant holds of the rest;
+-- where the slots are full, or the record is malformed, the text is refused; and after the loop no record is left.
 -- Assumes nothing.
-use Rattle.std.proofs.Common.{◌≡◌, refl, sym, ◌∙◌, arith, rules}
+use Rattle.std.proofs.Common.{◌≡◌, sym, ◌∙◌, arith, rules}
 use lib.ListN.{length-set}
 use mir.Syntax.{w32}
 use mir.Val.{to_z, of_z}
@@ -10,9 +10,6 @@ use Rattle.forms.specs.Entries.{opened, entered}
 use Rattle.scanning.specs.First.{record_some, record_le}
 use Rattle.scanning.specs.Rest.{AnswerRead, answer_read, answer_malformed, answers_end, answers_full, answers_wrong, answers_entered}
 use Rattle.records.proofs.read_answers.Goals as goal
-
-pub loop-rest-init : goal.loop-rest-init
-loop-rest-init c = (omega arith, refl, refl, refl)
 
 pub returns-then-k-eq-SLOTS : goal.returns-then-k-eq-SLOTS
 unfolding opened
