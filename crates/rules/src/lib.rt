@@ -188,6 +188,13 @@ pub struct Row {
     pub place: u32,
 }
 
+// A refusal: its number, and the place that it names.
+#[derive(Clone, Copy)]
+pub struct Refusal {
+    pub number: u32,
+    pub place: u32,
+}
+
 // What is told of an opening before the first trial: t and the most answers that may be needed, or a refusal.
 #[derive(Clone, Copy)]
 pub enum Quote {
