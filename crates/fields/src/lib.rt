@@ -5,7 +5,7 @@
 ghost use Rattle.std.specs.Prelude.{◌≡◌, ◌<◌};
 ghost use Rattle.scanning.specs.Scan.{before_byte, before_end, before_next, field_at, pair_at};
 
-use scanning::{NumberScan, PairScan};
+use scanning::Scanned;
 
 const CR: u8 = b'\r';
 
@@ -18,46 +18,39 @@ const DOUBLE_QUOTE: u8 = b'"';
 // ---- what follows a number
 
 // A number that a byte follows: on past the byte.
-fn before_byte(s: &[u8], n: NumberScan, byte: u8) -> NumberScan
+fn before_byte(s: &[u8], n: Option<Scanned<i32>>, byte: u8) -> Option<Scanned<i32>>
     requires { 0 < byte }
     ensures { result ≡ before_byte byte s.now n }
 {
-    let NumberScan::Is { value, next } = n else {
-        return NumberScan::Malformed;
-    };
-    if numbers::byte_at(s, next) == byte {
-        NumberScan::Is {
-            value,
-            next: next + 1,
-        }
-    } else {
-        NumberScan::Malformed
+    let Scanned { value, next } = n?;
+    if numbers::byte_at(s, next) != byte {
+        return None;
     }
+    Some(Scanned {
+        value,
+        next: next + 1,
+    })
 }
 
 // A number that CR LF follow: on past them; or one that the text ends with.
-fn before_end(s: &[u8], n: NumberScan) -> NumberScan
+fn before_end(s: &[u8], n: Option<Scanned<i32>>) -> Option<Scanned<i32>>
     ensures { result ≡ before_end s.now n }
 {
-    let NumberScan::Is { value, next } = n else {
-        return NumberScan::Malformed;
-    };
+    let Scanned { value, next } = n?;
     if s.len() <= next {
-        return NumberScan::Is { value, next };
+        return n;
     }
-    if numbers::byte_at(s, next) == CR {
-        if numbers::byte_at(s, next + 1) == LF {
-            return NumberScan::Is {
-                value,
-                next: next + 2,
-            };
-        }
+    if numbers::byte_at(s, next) != CR || numbers::byte_at(s, next + 1) != LF {
+        return None;
     }
-    NumberScan::Malformed
+    Some(Scanned {
+        value,
+        next: next + 2,
+    })
 }
 
 // A number that is the last of its record, or not.
-fn before_next(s: &[u8], n: NumberScan, last: bool) -> NumberScan
+fn before_next(s: &[u8], n: Option<Scanned<i32>>, last: bool) -> Option<Scanned<i32>>
     ensures { result ≡ before_next last s.now n }
 {
     if last {
@@ -70,7 +63,7 @@ fn before_next(s: &[u8], n: NumberScan, last: bool) -> NumberScan
 // ---- fields
 
 // A number, or one between double quotes.
-fn scan_field(s: &[u8], from: usize) -> NumberScan
+fn scan_field(s: &[u8], from: usize) -> Option<Scanned<i32>>
     ensures { result ≡ field_at s.now from }
 {
     if numbers::byte_at(s, from) == DOUBLE_QUOTE {
@@ -81,7 +74,7 @@ fn scan_field(s: &[u8], from: usize) -> NumberScan
 }
 
 // A field that is the last of its record: on past the record.
-pub fn scan_last(s: &[u8], from: usize) -> NumberScan
+pub fn scan_last(s: &[u8], from: usize) -> Option<Scanned<i32>>
     ensures { result ≡ before_end s.now (field_at s.now from) }
 {
     before_end(s, scan_field(s, from))
@@ -89,26 +82,14 @@ pub fn scan_last(s: &[u8], from: usize) -> NumberScan
 
 // Two fields with a comma between them; after the second CR LF or the end of the text follow if it is the last of its record, and a
 // comma if not.
-pub fn scan_pair(s: &[u8], from: usize, last: bool) -> PairScan
+#[tactic(auto, unfolding(scanning::specs::Scan::pair_at))]
+pub fn scan_pair(s: &[u8], from: usize, last: bool) -> Option<Scanned<(i32, i32)>>
     ensures { result ≡ pair_at last s.now from }
 {
-    let NumberScan::Is {
-        value: first,
-        next: middle,
-    } = before_byte(s, scan_field(s, from), COMMA)
-    else {
-        return PairScan::Malformed;
-    };
-    let NumberScan::Is {
-        value: second,
-        next,
-    } = before_next(s, scan_field(s, middle), last)
-    else {
-        return PairScan::Malformed;
-    };
-    PairScan::Are {
-        first,
-        second,
-        next,
-    }
+    let first = before_byte(s, scan_field(s, from), COMMA)?;
+    let second = before_next(s, scan_field(s, first.next), last)?;
+    Some(Scanned {
+        value: (first.value, second.value),
+        next: second.next,
+    })
 }

@@ -5,11 +5,11 @@ ghost use Rattle.std.specs.Prelude.{◌≡◌, ◌≤◌, get_or};
 ghost use Rattle.forms.specs.Number.{signed};
 ghost use Rattle.scanning.specs.Scan.{digit_at, digits_at, number_at};
 
-use scanning::NumberScan;
+use scanning::Scanned;
 
 const MINUS: u8 = b'-';
 
-const NO_DIGIT: u32 = 10;
+const MOST_DIGITS: usize = 5;
 
 // ---- bytes
 
@@ -20,18 +20,14 @@ pub fn byte_at(s: &[u8], at: usize) -> u8
     if at < s.len() { s[at] } else { 0 }
 }
 
-// The digit at a place; 10 where none stands.
-fn digit_at(s: &[u8], at: usize) -> u32
+// The digit at a place.
+fn digit_at(s: &[u8], at: usize) -> Option<u32>
     ensures { result ≡ digit_at s.now at }
 {
-    let b = byte_at(s, at);
-    if b < b'0' {
-        return NO_DIGIT;
+    match byte_at(s, at) {
+        b @ b'0'..=b'9' => Some((b - b'0') as u32),
+        _ => None,
     }
-    if b'9' < b {
-        return NO_DIGIT;
-    }
-    (b - b'0') as u32
 }
 
 // ---- numbers
@@ -45,32 +41,27 @@ fn with_sign(negative: bool, n: u32) -> i32
 }
 
 // 1 to 5 digits, with a sign. A sixth is left to whoever asks what follows: it is no comma, no quote and no end.
-fn scan_digits(s: &[u8], negative: bool, from: usize) -> NumberScan
+fn scan_digits(s: &[u8], negative: bool, from: usize) -> Option<Scanned<i32>>
     ensures { result ≡ digits_at negative s.now from }
 {
     let mut v: u32 = 0;
-    let mut digits: u32 = 0;
     let mut i = from;
-    while digits < 5 {
-        let d = digit_at(s, i);
-        if d == NO_DIGIT {
-            break;
-        }
+    for _ in 0..MOST_DIGITS {
+        let Some(d) = digit_at(s, i) else { break };
         v = v * 10 + d;
-        digits += 1;
         i += 1;
     }
     if i == from {
-        return NumberScan::Malformed;
+        return None;
     }
-    NumberScan::Is {
+    Some(Scanned {
         value: with_sign(negative, v),
         next: i,
-    }
+    })
 }
 
 // An optional minus, and digits.
-pub fn scan_number(s: &[u8], from: usize) -> NumberScan
+pub fn scan_number(s: &[u8], from: usize) -> Option<Scanned<i32>>
     ensures { result ≡ number_at s.now from }
 {
     let negative = byte_at(s, from) == MINUS;

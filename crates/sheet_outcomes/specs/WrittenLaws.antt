@@ -1,9 +1,11 @@
 -- The method as written, by the form of a text and what the scanner finds at its beginning.
 -- Assumes nothing.
 use Rattle.std.specs.Prelude.{ℕ, ◌≡◌, Bool, true, false, cond, List, [], ◌∷◌, eqb, ltb, ℤ, length}
+use Rattle.std.specs.Prelude.{Option, None, Some}
 use Rattle.std.proofs.Math.Path.{refl, sym, ap}
 use Rattle.std.proofs.Common.{subst, ◌∙◌, arith, ltb-false}
 use Rattle.integers.proofs.SignsLaws.{never}
+use Rattle.rules.specs.declared.Opening.{Opening}
 use Rattle.rules.specs.Rules.{slots}
 use Rattle.forms.specs.declared.AnswerRecord.{AnswerRecord}
 use Rattle.forms.specs.declared.OpeningRecord.{OpeningRecord}
@@ -12,9 +14,7 @@ use Rattle.forms.specs.declared.Entries.{Entries}
 use Rattle.forms.specs.Text.{records_of}
 use Rattle.forms.specs.Entries.{too_long, too_many, malformed, longest_text, whole_text, opening_place, answer_place, answer_of, opening_of}
 use Rattle.forms.specs.Entries.{refused, opened, entered, answers_from, records_read, entries_of}
-use Rattle.scanning.specs.declared.NumberScan.{NumberScan}
-use Rattle.scanning.specs.declared.PairScan.{PairScan}
-use Rattle.scanning.specs.declared.OpeningScan.{OpeningScan}
+use Rattle.scanning.specs.declared.Scanned.{Scanned}
 use Rattle.scanning.specs.Scan.{first_record, field_at, before_end, pair_at, opened_with, opened_with_share, opened_then, opened_from, opening_scan}
 use Rattle.scanning.specs.First.{records_step}
 use Rattle.scanning.specs.Rest.{opening_read, opening_malformed}
@@ -78,38 +78,39 @@ by_form s = go (ltb longest_text (length s))
 
 -- ---- the first number of an opening is its method
 
-abbrev Carries : ℤ → OpeningScan → Type 0
-Carries m (OpeningScan.Opened o n) = o.method ≡ m
-Carries m OpeningScan.Malformed = Unit {0}
+abbrev Carries : ℤ → Option (Scanned Opening) → Type 0
+Carries m (Some o) = o.value.method ≡ m
+Carries m None = Unit {0}
 
-scan_carries : (s : List ℕ) (m x : ℤ) (i : ℕ) → Carries m (opened_from s (PairScan.Are m x i))
-scan_carries s m x i = four (pair_at true s i)
+scan_carries : (s : List ℕ) (q : Scanned (ℤ × ℤ)) → Carries q.value.0 (opened_from s (Some q))
+scan_carries s q = four (pair_at true s q.next)
   where
-    five : (y t : ℤ) (q : NumberScan) → Carries m (opened_with m x y t q)
-    five y t (NumberScan.Is p n) = refl
-    five y t NumberScan.Malformed = tt
+    five : (y t : ℤ) (p : Option (Scanned ℤ)) → Carries q.value.0 (opened_with q.value.0 q.value.1 y t p)
+    five y t (Some p) = refl
+    five y t None = tt
 
-    share : (q : PairScan) → Carries m (opened_with_share s m x q)
-    share (PairScan.Are y t j) = five y t (before_end s (field_at s j))
-    share PairScan.Malformed = tt
+    share : (p : Option (Scanned (ℤ × ℤ))) → Carries q.value.0 (opened_with_share s q.value.0 q.value.1 p)
+    share (Some p) = five p.value.0 p.value.1 (before_end s (field_at s p.next))
+    share None = tt
 
-    four : (q : PairScan) → Carries m (opened_then s m x i q)
-    four (PairScan.Are y t n) = refl
-    four PairScan.Malformed = share (pair_at false s i)
+    four : (p : Option (Scanned (ℤ × ℤ))) → Carries q.value.0 (opened_then s q.value.0 q.value.1 q.next p)
+    four (Some p) = refl
+    four None = share (pair_at false s q.next)
 
 module _ (s : List ℕ) (found : is_opened (opening_of (first_record s)) ≡ true) where
   -- its record is one that is no opening
-  unopened : {X : Type 0} → opening_scan s ≡ OpeningScan.Malformed → X
+  unopened : {X : Type 0} → opening_scan s ≡ None → X
   unopened e = never (sym found ∙ ap is_opened (opening_malformed s refl e))
 
-  pub first_scanned : {m x : ℤ} {i : ℕ} → pair_at false s 0 ≡ PairScan.Are m x i → method_number m ≡ method_in (opening_of (first_record s))
+  pub first_scanned : {q : Scanned (ℤ × ℤ)} → pair_at false s 0 ≡ Some q → method_number q.value.0 ≡ method_in (opening_of (first_record s))
   unfolding opening_scan
-  first_scanned {m} {x} {i} e = go (opening_scan s) refl (subst (λ (q : PairScan). Carries m (opened_from s q)) (sym e) (scan_carries s m x i))
+  first_scanned {q} e =
+      go (opening_scan s) refl (subst (λ (p : Option (Scanned (ℤ × ℤ))). Carries q.value.0 (opened_from s p)) (sym e) (scan_carries s q))
     where
-      go : (q : OpeningScan) → opening_scan s ≡ q → Carries m q → method_number m ≡ method_in (opening_of (first_record s))
-      go (OpeningScan.Opened o n) f c = ap method_number (sym c) ∙ sym (ap method_in (opening_read s refl f).read)
-      go OpeningScan.Malformed f c = unopened f
+      go : (r : Option (Scanned Opening)) → opening_scan s ≡ r → Carries q.value.0 r → method_number q.value.0 ≡ method_in (opening_of (first_record s))
+      go (Some o) f c = ap method_number (sym c) ∙ sym (ap method_in (opening_read s refl f).read)
+      go None f c = unopened f
 
-  pub never_unscanned : {X : Type 0} → pair_at false s 0 ≡ PairScan.Malformed → X
+  pub never_unscanned : {X : Type 0} → pair_at false s 0 ≡ None → X
   unfolding opening_scan
   never_unscanned e = unopened (ap (opened_from s) e)

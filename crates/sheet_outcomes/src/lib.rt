@@ -10,7 +10,6 @@ ghost use Rattle.sheet_outcomes.specs.HasOpening.{has_opening};
 
 use forms::Form;
 use rules::{Opening, Quote, Report};
-use scanning::PairScan;
 use seasons::Outcome;
 
 // 0, 1 and 2 as they are, and 3 for any other number.
@@ -42,12 +41,8 @@ fn method_written(text: &[u8], form: Form) -> u16
         return seasons::OTHER;
     }
     match fields::scan_pair(text, 0, false) {
-        PairScan::Are {
-            first,
-            second: _,
-            next: _,
-        } => method_number(first),
-        PairScan::Malformed => seasons::OTHER,
+        Some(head) => method_number(head.value.0),
+        None => seasons::OTHER,
     }
 }
 

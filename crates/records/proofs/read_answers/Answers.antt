@@ -21,19 +21,22 @@ returns-then-k-eq-SLOTS c =
 pub slice_bounds-rest-count : goal.slice_bounds-rest-count
 slice_bounds-rest-count c =
     let l = c.loop-rest in
-    let taken : AnswerRead l.rest.now c.in-Are.point c.in-Are.value c.in-Are.length = answer_read _ c.scan_pair.ensures c.in-Are.is in
+    let q = c.in-Some.answer in
+    let taken : AnswerRead l.rest.now q.value.0 q.value.1 q.next = answer_read _ c.scan_pair.ensures c.in-Some.is in
     omega (arith, record_le l.rest.now)
 
 pub slice_bounds-rest-start : goal.slice_bounds-rest-start
 slice_bounds-rest-start c =
     let l = c.loop-rest in
-    let taken : AnswerRead l.rest.now c.in-Are.point c.in-Are.value c.in-Are.length = answer_read _ c.scan_pair.ensures c.in-Are.is in
+    let q = c.in-Some.answer in
+    let taken : AnswerRead l.rest.now q.value.0 q.value.1 q.next = answer_read _ c.scan_pair.ensures c.in-Some.is in
     omega (arith, record_le l.rest.now)
 
 pub loop-rest-smaller : goal.loop-rest-smaller
 loop-rest-smaller c =
     let l = c.loop-rest in
-    let taken : AnswerRead l.rest.now c.in-Are.point c.in-Are.value c.in-Are.length = answer_read _ c.scan_pair.ensures c.in-Are.is in
+    let q = c.in-Some.answer in
+    let taken : AnswerRead l.rest.now q.value.0 q.value.1 q.next = answer_read _ c.scan_pair.ensures c.in-Some.is in
     omega (arith, record_some l.rest.now c.loop-rest-test.true)
 
 pub loop-rest-preserved : goal.loop-rest-preserved
@@ -41,24 +44,25 @@ unfolding entered
 loop-rest-preserved c =
     let l = c.loop-rest in
     let rest = l.rest.now in
-    let taken : AnswerRead rest c.in-Are.point c.in-Are.value c.in-Are.length = answer_read _ c.scan_pair.ensures c.in-Are.is in
-    let x : to_z w32 (of_z w32 c.in-Are.point) ≡ c.in-Are.point = search rules in
-    let y : to_z w32 (of_z w32 c.in-Are.value) ≡ c.in-Are.value = search rules in (
+    let q = c.in-Some.answer in
+    let taken : AnswerRead rest q.value.0 q.value.1 q.next = answer_read _ c.scan_pair.ensures c.in-Some.is in
+    let x : to_z w32 (of_z w32 q.value.0) ≡ q.value.0 = search rules in
+    let y : to_z w32 (of_z w32 q.value.1) ≡ q.value.1 = search rules in (
       omega arith,
       simp length-set l.invariant.1,
       simp length-set l.invariant.2,
       simp (x, y)
           (l.invariant.3
-          ∙ answers_entered _ rest c.loop-rest-test.true c.if-k-eq-SLOTS.false taken (part_to_end rest c.in-Are.length)),
+          ∙ answers_entered _ rest c.loop-rest-test.true c.if-k-eq-SLOTS.false taken (part_to_end rest q.next)),
     )
 
-pub returns-in-Malformed : goal.returns-in-Malformed
+pub returns-in-None : goal.returns-in-None
 unfolding opened
-returns-in-Malformed c =
+returns-in-None c =
     let l = c.loop-rest in
-    c.refuse-e-in-Malformed.ensures
+    c.refuse-e-in-None.ensures
     ∙ sym (l.invariant.3
-    ∙ answers_wrong _ _ c.loop-rest-test.true c.if-k-eq-SLOTS.false (answer_malformed _ c.scan_pair.ensures c.in-Malformed.is))
+    ∙ answers_wrong _ _ c.loop-rest-test.true c.if-k-eq-SLOTS.false (answer_malformed _ c.scan_pair.ensures c.in-None.is))
 
 pub returns-after-loop-rest : goal.returns-after-loop-rest
 unfolding opened

@@ -21,18 +21,21 @@ returns-in_default c =
 pub slice_bounds-read_answers-count : goal.slice_bounds-read_answers-count
 slice_bounds-read_answers-count c =
     let s = c.args.text.now in
-    let taken : OpeningRead s c.in-Opened.opening c.in-Opened.length = opening_read s c.read_opening.ensures c.in-Opened.is in
+    let o = c.in-Some.opening in
+    let taken : OpeningRead s o.value o.next = opening_read s c.read_opening.ensures c.in-Some.is in
     omega (arith, record_le s)
 
 pub slice_bounds-read_answers-start : goal.slice_bounds-read_answers-start
 slice_bounds-read_answers-start c =
     let s = c.args.text.now in
-    let taken : OpeningRead s c.in-Opened.opening c.in-Opened.length = opening_read s c.read_opening.ensures c.in-Opened.is in
+    let o = c.in-Some.opening in
+    let taken : OpeningRead s o.value o.next = opening_read s c.read_opening.ensures c.in-Some.is in
     omega (arith, record_le s)
 
 pub returns : goal.returns
 returns c =
     let s = c.args.text.now in
-    let taken : OpeningRead s c.in-Opened.opening c.in-Opened.length = opening_read s c.read_opening.ensures c.in-Opened.is in
+    let o = c.in-Some.opening in
+    let taken : OpeningRead s o.value o.next = opening_read s c.read_opening.ensures c.in-Some.is in
     c.read_answers.ensures
-    ∙ sym (entries_short s c.if-text-gt-LONGEST_TEXT.false ∙ opening_taken s taken (part_to_end s c.in-Opened.length))
+    ∙ sym (entries_short s c.if-text-gt-LONGEST_TEXT.false ∙ opening_taken s taken (part_to_end s o.next))
