@@ -2,17 +2,14 @@
 // inner crate: some functions require what their callers have checked.
 #![tactic(auto)]
 
-ghost use Rattle.std.specs.Prelude.{◌≡◌, ◌+◌, ◌<◌, [], length};
+ghost use Rattle.std.specs.Prelude.{◌≡◌, ◌↔◌, ◌+◌, ◌<◌, [], length, IsOk, IfErr};
 ghost use Rattle.registers.specs.Exchange.{word_at, signed_of, read_fault, top_bit_set, exception_reply, echo_reply};
-ghost use Rattle.registers.specs.Inner.{form_fault, Writable};
-ghost use Rattle.modbus.specs.Reply.{Holds};
+ghost use Rattle.registers.specs.Inner.{exception_number, form_fault, Writable};
 
-// A reply: its first `len` bytes.
-#[derive(Clone, Copy)]
-pub struct Reply {
-    pub bytes: [u8; registers::LONGEST_REPLY],
-    pub len: usize,
-}
+use arrayvec::ArrayVec;
+use registers::Exception;
+
+pub type Reply = ArrayVec<u8, { registers::LONGEST_REPLY }>;
 
 // ---- words
 
@@ -36,42 +33,44 @@ pub fn signed(word: u32) -> i32
     word as i32 - 65536
 }
 
-// ---- the checks of a request by itself: an exception's number, or 0
+// ---- the checks of a request by itself
 
 // A read: a wrong length, a quantity outside 1 to 125, a read past register 6.
-pub fn read_fault(request: &[u8]) -> u8
-    ensures { result ≡ read_fault request.now }
+pub fn check_read(request: &[u8]) -> Result<(), Exception>
+    ensures ok { IsOk result ↔ (read_fault request.now ≡ 0) }
+    ensures err { IfErr result (λ e. exception_number e ≡ read_fault request.now) }
 {
     if request.len() != registers::REQUEST_LENGTH {
-        return registers::ILLEGAL_VALUE;
+        return Err(Exception::IllegalValue);
     }
     let quantity = word_at(request, 3);
     if quantity < 1 {
-        return registers::ILLEGAL_VALUE;
+        return Err(Exception::IllegalValue);
     }
     if registers::MOST_ASKED < quantity {
-        return registers::ILLEGAL_VALUE;
+        return Err(Exception::IllegalValue);
     }
     let address = word_at(request, 1);
     let end = (address + quantity) as usize;
     if registers::REGISTERS < end {
-        return registers::ILLEGAL_ADDRESS;
+        return Err(Exception::IllegalAddress);
     }
-    0
+    Ok(())
 }
 
 // A write: a wrong length, an address other than register 6.
-pub fn form_fault(request: &[u8]) -> u8
-    ensures { result ≡ form_fault request.now }
+pub fn check_write(request: &[u8]) -> Result<(), Exception>
+    ensures ok { IsOk result ↔ (form_fault request.now ≡ 0) }
+    ensures err { IfErr result (λ e. exception_number e ≡ form_fault request.now) }
 {
     if request.len() != registers::REQUEST_LENGTH {
-        return registers::ILLEGAL_VALUE;
+        return Err(Exception::IllegalValue);
     }
     let address = word_at(request, 1);
     if address != registers::ENTRY_REGISTER {
-        return registers::ILLEGAL_ADDRESS;
+        return Err(Exception::IllegalAddress);
     }
-    0
+    Ok(())
 }
 
 // ---- replies
@@ -88,37 +87,27 @@ fn with_top_bit(function: u8) -> u8
 
 // No bytes.
 pub fn no_reply() -> Reply
-    ensures { Holds result [] }
+    ensures { result.items ≡ [] }
 {
-    Reply {
-        bytes: [0; registers::LONGEST_REPLY],
-        len: 0,
-    }
+    Reply::new()
 }
 
 // The function with its top bit set, and the exception's number.
-pub fn exception(function: u8, fault: u8) -> Reply
-    ensures { Holds result (exception_reply function fault) }
+pub fn exception(function: u8, exception: Exception) -> Reply
+    ensures { result.items ≡ exception_reply function (exception_number exception) }
 {
-    let first = with_top_bit(function);
-    Reply {
-        bytes: [first, fault, 0, 0, 0, 0, 0, 0, 0, 0, 0, 0, 0, 0, 0, 0],
-        len: 2,
-    }
+    let mut reply = Reply::new();
+    reply.push(with_top_bit(function));
+    reply.push(exception as u8);
+    reply
 }
 
 // The request itself.
 pub fn echo(request: &[u8]) -> Reply
     requires { Writable request.now }
-    ensures { Holds result (echo_reply request.now) }
+    ensures { result.items ≡ echo_reply request.now }
 {
-    let a = request[0];
-    let b = request[1];
-    let c = request[2];
-    let d = request[3];
-    let e = request[4];
-    Reply {
-        bytes: [a, b, c, d, e, 0, 0, 0, 0, 0, 0, 0, 0, 0, 0, 0],
-        len: registers::REQUEST_LENGTH,
-    }
+    let mut reply = Reply::new();
+    reply.try_extend_from_slice(request).unwrap();
+    reply
 }

@@ -2,7 +2,6 @@
 #![tactic(auto)]
 
 ghost use Rattle.std.specs.Prelude.{◌≡◌, ◌≤◌, length};
-ghost use Rattle.lines.specs.Line.{Holds};
 ghost use Rattle.printing.specs.Printed.{longest_record, record_with, record_of, placed, placed_length};
 
 use lines::Line;
@@ -14,19 +13,18 @@ pub const LONGEST_RECORD: usize = lines::LONGEST_LINE;
 // The record of a word and numbers, which is short enough.
 fn line_with(word: &[u8], numbers: &[u32]) -> Line
     requires { length (record_with word.now numbers.now) ≤ longest_record }
-    ensures { Holds result (record_with word.now numbers.now) }
+    ensures { result.items ≡ record_with word.now numbers.now }
 {
-    let empty = Line {
-        bytes: [0; LONGEST_RECORD],
-        len: 0,
-    };
-    let line = lines::put_fields(lines::put_text(empty, word), numbers);
-    lines::put_text(line, b"\r\n")
+    let mut line = Line::new();
+    line.try_extend_from_slice(word).unwrap();
+    lines::put_fields(&mut line, numbers);
+    line.try_extend_from_slice(b"\r\n").unwrap();
+    line
 }
 
 // The record of a report.
 fn line_of(report: Report) -> Line
-    ensures { Holds result (record_of report) }
+    ensures { result.items ≡ record_of report }
 {
     match report {
         Report::Next { point, taken } => line_with(b"next", &[point, taken]),
@@ -48,11 +46,7 @@ pub fn place_text(text: &[u8], out: &mut [u8]) -> usize
     if out.len() < text.len() {
         return 0;
     }
-    let mut i = 0;
-    while i < text.len() {
-        out[i] = text[i];
-        i += 1;
-    }
+    out[..text.len()].copy_from_slice(text);
     text.len()
 }
 
@@ -64,7 +58,5 @@ pub fn write_report(report: Report, out: &mut [u8]) -> usize
     ensures report_len_bound { length (record_of report) ≤ longest_record }
 {
     let line = line_of(report);
-    let len = line.len;
-    let bytes = line.bytes;
-    place_text(&bytes[..len], out)
+    place_text(line.as_slice(), out)
 }

@@ -1,7 +1,7 @@
 -- Exchanges with the panel worked by hand, in lists with one statement each; words, buffers and a run. All hold by computation. Most are with
 -- document 01's search by M from 0 to 100 with τ 1, and values −50, 100, −10, −2, 1.
 -- Assumes nothing.
-use Rattle.std.specs.Prelude.{ℕ, ◌-◌, ◌≡◌, refl, List, [], ◌∷◌, ◌++◌, map, ℤ, pos, neg_ℤ, length, replicate}
+use Rattle.std.specs.Prelude.{ℕ, ◌-◌, ◌≡◌, refl, List, [], ◌∷◌, ◌++◌, map, ℤ, pos, neg_ℤ, length, replicate, Ok, Err}
 use Rattle.rules.specs.declared.Opening.{Opening}
 use Rattle.rules.specs.Rules.{slots, method_of, tolerance_at, start_of, stopped_of, forward_of, displacement_of, linear_of, cross_of, rational_of}
 use Rattle.rules.specs.Rules.{doubled_of, opposed, partner_of, streak_of, renewed_of, advance_of, step_of, reach_of, offset_of, next_of}
@@ -10,7 +10,6 @@ use Rattle.rules.specs.Search.{begin_of, offer_of, take_of, progress_of, bracket
 use Rattle.held.specs.declared.Search.{Search}
 use Rattle.held.specs.Held.{blank, standing_of, held_report, enter_of}
 use Rattle.journal.specs.Run.{offered}
-use Rattle.registers.specs.declared.Replied.TheVariants.{Reply, Refused}
 use Rattle.registers.specs.declared.Exchanged.{Exchanged}
 use Rattle.registers.specs.Registers.{registers_of}
 use Rattle.registers.specs.Exchange.{signed_of, entry_of, read_fault, write_fault, fault_of, top_bit_set, word_bytes, exchange_of, exchanged_of}
@@ -181,23 +180,23 @@ calls =
       held = four;
       asked = enter_one;
       buffer = replicate 15 9;
-      told = record { replied = Refused 18 0; search = four };
+      told = record { replied = Err (record { number = 18; place = 0 }); search = four };
       filled = replicate 15 9;
     }
-    ∷ record { held = blank; asked = []; buffer = []; told = record { replied = Refused 18 0; search = blank }; filled = [] }
+    ∷ record { held = blank; asked = []; buffer = []; told = record { replied = Err (record { number = 18; place = 0 }); search = blank }; filled = [] }
     ∷ record {
       held = four;
       asked = enter_one;
       buffer = replicate 16 9;
-      told = record { replied = Reply 5; search = five };
+      told = record { replied = Ok 5; search = five };
       filled = 6 ∷ 0 ∷ 6 ∷ 0 ∷ 1 ∷ replicate 11 9;
     }
-    ∷ record { held = two; asked = []; buffer = replicate 16 9; told = record { replied = Reply 0; search = two }; filled = replicate 16 9 }
+    ∷ record { held = two; asked = []; buffer = replicate 16 9; told = record { replied = Ok 0; search = two }; filled = replicate 16 9 }
     ∷ record {
       held = blank;
       asked = enter_one;
       buffer = replicate 20 9;
-      told = record { replied = Reply 2; search = blank };
+      told = record { replied = Ok 2; search = blank };
       filled = 134 ∷ 4 ∷ replicate 18 9;
     }
     ∷ []

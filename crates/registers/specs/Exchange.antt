@@ -3,11 +3,11 @@
 -- bytes; a word is two bytes, the high one first.
 -- Assumes nothing.
 use Rattle.std.specs.Prelude.{ℕ, ◌+◌, ◌*◌, ◌/◌, ◌%◌, Bool, cond, not, ◌&&◌, List, [], ◌∷◌, ◌++◌, eqb, leb, ltb, ℤ, pos, ◌-ℤ◌, length, take, drop, get_or}
+use Rattle.std.specs.Prelude.{Ok, Err}
 use Rattle.rules.specs.Search.{is_refusal}
 use Rattle.held.specs.declared.Search.{Search}
 use Rattle.held.specs.declared.Entered.{Entered}
 use Rattle.held.specs.Held.{held_report, enter_of}
-use Rattle.registers.specs.declared.Replied.{Replied}
 use Rattle.registers.specs.declared.Exchanged.{Exchanged}
 use Rattle.registers.specs.Registers.{registers_of, register_count, entry_register, called_for}
 
@@ -156,8 +156,8 @@ longest_reply = 16
 unfoldable pub exchanged_of : Search → List ℕ → List ℕ → Exchanged
 exchanged_of s request buffer =
     cond (ltb (length buffer) longest_reply)
-    (record { replied = Replied.Refused reply_too_short whole_reply; search = s })
-    (record { replied = Replied.Reply (length (exchange_of s request).reply); search = (exchange_of s request).search })
+    (record { replied = Err (record { number = reply_too_short; place = whole_reply }); search = s })
+    (record { replied = Ok (length (exchange_of s request).reply); search = (exchange_of s request).search })
 
 -- the buffer afterwards: the reply stands at its beginning, and bytes past it stay; on a refusal all of them stay
 unfoldable pub reply_buffer : Search → List ℕ → List ℕ → List ℕ

@@ -3,9 +3,20 @@
 -- Assumes nothing.
 use Rattle.std.specs.Prelude.{ℕ, ◌+◌, ◌≤◌, ◌≡◌, cond, not, List, eqb, length}
 use Rattle.held.specs.declared.Search.{Search}
+use Rattle.registers.specs.declared.Exception.{Exception}
 use Rattle.registers.specs.Registers.{register_count, entry_register}
-use Rattle.registers.specs.Exchange.{read_holding, write_single, request_length, address_of, quantity_of, entry_of, illegal_address, illegal_value}
+use Rattle.registers.specs.Exchange.{read_holding, write_single, request_length, address_of, quantity_of, entry_of}
+use Rattle.registers.specs.Exchange.{illegal_function, illegal_address, illegal_value, device_failure}
 use Rattle.registers.specs.Exchange.{wrong_length, read_fault, write_fault, exception_reply, read_reply, echo_reply, Exchange}
+
+-- ---- exceptions
+
+-- an exception's Modbus number
+abbrev pub exception_number : Exception → ℕ
+exception_number Exception.IllegalFunction = illegal_function
+exception_number Exception.IllegalAddress = illegal_address
+exception_number Exception.IllegalValue = illegal_value
+exception_number Exception.DeviceFailure = device_failure
 
 -- ---- what a read and a write come to, once the search and the function are known
 

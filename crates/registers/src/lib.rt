@@ -2,6 +2,7 @@
 #![tactic(auto)]
 
 use held::Search;
+use rules::Refusal;
 
 // How many registers there are, the one that shows the point called for, and the one that takes a value.
 pub const REGISTERS: usize = 7;
@@ -24,24 +25,17 @@ pub const MOST_ASKED: u32 = 125;
 pub const LONGEST_REPLY: usize = 16;
 
 // The exceptions, by their Modbus numbers.
-pub const ILLEGAL_FUNCTION: u8 = 1;
-
-pub const ILLEGAL_ADDRESS: u8 = 2;
-
-pub const ILLEGAL_VALUE: u8 = 3;
-
-pub const DEVICE_FAILURE: u8 = 4;
-
-// What is told of a request: the length of the reply that stands in the lent buffer, or a refusal.
 #[derive(Clone, Copy)]
-pub enum Replied {
-    Reply { length: u32 },
-    Refused { number: u32, place: u32 },
+pub enum Exception {
+    IllegalFunction = 1,
+    IllegalAddress = 2,
+    IllegalValue = 3,
+    DeviceFailure = 4,
 }
 
-// The same, and beside it the search as it then is.
+// What is told of a request, the length of the reply that stands in the lent buffer or a refusal, and beside it the search as it then is.
 #[derive(Clone, Copy)]
 pub struct Exchanged {
-    pub replied: Replied,
+    pub replied: Result<u32, Refusal>,
     pub search: Search,
 }

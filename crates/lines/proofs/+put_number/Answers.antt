@@ -1,32 +1,35 @@
--- `lines::put_number`, which calls itself, meets its contract: a number below 10 is one digit, and another is the digits of its
--- tenth part and one more.
+-- `lines::put_number`, which calls itself, meets its contract: behind the digits of its tenth part, of which a number below 10 has
+-- none, stands the last.
 -- Assumes nothing.
-use Rattle.std.proofs.Common.{ℕ, ◌≡◌, ◌+◌, ◌/◌, ◌≤◌, ap, ◌∙◌, arith, length, length-append}
-use Rattle.lines.specs.declared.Line.{Line}
-use Rattle.lines.specs.Decimal.{decimal_of}
+use Rattle.std.proofs.Common.{ℕ, ◌≡◌, ◌/◌, ◌%◌, ◌≤◌, ◌<◌, ap, ◌∙◌, arith, List, [], ◌∷◌, ◌++◌, append_assoc, length, length-append}
+use Rattle.lines.specs.Decimal.{decimal_of, digit_byte}
 use Rattle.lines.proofs.DecimalLaws.{decimal_one, decimal_more}
-use Rattle.lines.specs.Line.{written}
-use Rattle.lines.proofs.LineLaws.{written_append, written_len}
 use Rattle.lines.proofs.+put_number.Goals as goal
+use Rattle.lines.proofs.+put_number.Goals.{then-n-ge10, else-n-ge10}
 
-more_length : (n : ℕ) → 10 ≤ n → length (decimal_of n) ≡ length (decimal_of (n / 10)) + 1
-more_length n h = rw (decimal_more n h, length-append)
+module _ (n : ℕ) (old line : List ℕ) where
+  last_of_more : 10 ≤ n → line ≡ old ++ decimal_of (n / 10) → line ++ digit_byte (n % 10) ∷ [] ≡ old ++ decimal_of n
+  last_of_more h e = rw (e, decimal_more n h, append_assoc)
 
-pub put_byte-requires : goal.put_byte-requires
-put_byte-requires t c = omega (arith, ap length (decimal_one c.args.n (omega arith)))
-
-pub returns-then-n-lt10 : goal.returns-then-n-lt10
-unfolding written
-returns-then-n-lt10 t c = c.put_byte.ensures ∙ rw (decimal_one c.args.n (omega arith))
+  last_of_one : n < 10 → line ≡ old → line ++ digit_byte (n % 10) ∷ [] ≡ old ++ decimal_of n
+  last_of_one h e = let d : n % 10 ≡ n = omega arith in rw (e, d, decimal_one n h)
 
 pub put_number-requires : goal.put_number-requires
-put_number-requires t c = (omega arith, omega (arith, more_length c.args.n (omega arith)))
+put_number-requires t c =
+    (omega arith, omega (arith, simp length-append at (ap length (decimal_more c.args.n (omega arith)))))
 
-pub put_byte-requires-2 : goal.put_byte-requires-2
-put_byte-requires-2 t c =
-    let s = c.args in
-    omega (arith, ap (λ (l : Line). l.len) c.put_number.ensures, written_len s.line (decimal_of (s.n / 10)), more_length s.n (omega arith))
+pub push-requires : goal.push-requires
+push-requires t c =
+    let old = c.args.line.now.items in
+    let line = c.if-n-ge10.line.items in
+    elim c.if-n-ge10.branch [
+      | then-n-ge10 w ↦ omega (arith, simp length-append at (ap length (last_of_more c.args.n old line w.if-n-ge10.true (cc))))
+      | else-n-ge10 w ↦ omega (arith, simp length-append at (ap length (last_of_one c.args.n old line w.if-n-ge10.false (cc))))
+    ]
 
 pub returns : goal.returns
-unfolding written
-returns t c = c.put_byte-2.ensures ∙ rw (decimal_more c.args.n (omega arith), written_append, c.put_number.ensures)
+returns t c =
+    elim c.if-n-ge10.branch [
+      | then-n-ge10 w ↦ c.push.ensures.items ∙ last_of_more _ _ _ w.if-n-ge10.true (cc)
+      | else-n-ge10 w ↦ c.push.ensures.items ∙ last_of_one _ _ _ w.if-n-ge10.false (cc)
+    ]
