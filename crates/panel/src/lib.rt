@@ -10,10 +10,11 @@ ghost use Rattle.panel.specs.Told.{Tells};
 
 use held::Search;
 use modbus::Reply;
-use registers::{Exchanged, Replied};
+use registers::{Exception, Exchanged};
+use rules::Refusal;
 
 // A reply, and beside it the search as it then is.
-#[derive(Clone, Copy)]
+#[derive(Drop)]
 struct Told {
     reply: Reply,
     search: Search,
@@ -24,10 +25,9 @@ fn write(search: Search, point: u16, request: &[u8]) -> Told
     requires { point ≡ called_for search }
     ensures { Tells result (write_told search request.now) }
 {
-    let fault = modbus::form_fault(request);
-    if fault != 0 {
+    if let Err(exception) = modbus::check_write(request) {
         return Told {
-            reply: modbus::exception(registers::WRITE_SINGLE, fault),
+            reply: modbus::exception(registers::WRITE_SINGLE, exception),
             search,
         };
     }
@@ -36,7 +36,7 @@ fn write(search: Search, point: u16, request: &[u8]) -> Told
     let report = entered.report;
     if refusals::is_refusal(report) {
         return Told {
-            reply: modbus::exception(registers::WRITE_SINGLE, registers::ILLEGAL_VALUE),
+            reply: modbus::exception(registers::WRITE_SINGLE, Exception::IllegalValue),
             search,
         };
     }
@@ -61,7 +61,7 @@ fn respond(search: Search, request: &[u8]) -> Told
     let report = search.report();
     if refusals::is_refusal(report) {
         return Told {
-            reply: modbus::exception(function, registers::DEVICE_FAILURE),
+            reply: modbus::exception(function, Exception::DeviceFailure),
             search,
         };
     }
@@ -76,7 +76,7 @@ fn respond(search: Search, request: &[u8]) -> Told
         return write(search, words[registers::POINT_REGISTER], request);
     }
     Told {
-        reply: modbus::exception(function, registers::ILLEGAL_FUNCTION),
+        reply: modbus::exception(function, Exception::IllegalFunction),
         search,
     }
 }
@@ -93,21 +93,17 @@ pub fn panel(search: Search, request: &[u8], reply: &mut [u8]) -> Exchanged
 {
     if reply.len() < registers::LONGEST_REPLY {
         return Exchanged {
-            replied: Replied::Refused {
+            replied: Err(Refusal {
                 number: rules::REPLY_TOO_SHORT,
                 place: 0,
-            },
+            }),
             search,
         };
     }
     let told = respond(search, request);
-    let text = told.reply;
-    let len = text.len;
-    let bytes = text.bytes;
-    let length = printing::place_text(&bytes[..len], reply) as u32;
-    let left = told.search;
+    let length = printing::place_text(told.reply.as_slice(), reply) as u32;
     Exchanged {
-        replied: Replied::Reply { length },
-        search: left,
+        replied: Ok(length),
+        search: told.search,
     }
 }

@@ -7,7 +7,7 @@ ghost use Rattle.panel_numbers.specs.Numbers.{replied_row_of, exchanged_row_of};
 
 use clean_sheets::WrittenRow;
 use held::Search;
-use registers::Replied;
+use rules::Refusal;
 
 // What is told of a request as plain numbers, and beside it the search as it then is.
 #[derive(Clone, Copy)]
@@ -17,17 +17,17 @@ pub struct ExchangedRow {
 }
 
 // What is told of a request, as plain numbers.
-fn replied_row(replied: Replied) -> WrittenRow
+fn replied_row(replied: Result<u32, Refusal>) -> WrittenRow
     ensures { result ≡ replied_row_of replied }
 {
     match replied {
-        Replied::Reply { length } => WrittenRow {
+        Ok(length) => WrittenRow {
             kind: rules::WRITTEN_KIND,
             length,
             number: 0,
             place: 0,
         },
-        Replied::Refused { number, place } => WrittenRow {
+        Err(Refusal { number, place }) => WrittenRow {
             kind: rules::REFUSED_KIND,
             length: 0,
             number,

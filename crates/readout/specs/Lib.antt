@@ -1,2 +1,1 @@
 -- The modules of `specs/`.
-pub mod Words

@@ -2,13 +2,12 @@
 // callers have checked.
 #![tactic(auto)]
 
-ghost use Rattle.std.specs.Prelude.{◌≡◌, ◌+◌, ◌*◌, ◌≤◌, length};
+ghost use Rattle.std.specs.Prelude.{◌≡◌, ◌+◌, ◌*◌, ◌≤◌, ◌++◌, length};
+ghost use Rattle.arrayvec.specs.ArrayVec.{array_vec_len};
 ghost use Rattle.held.proofs.HeldLaws.{WithinLimits};
 ghost use Rattle.registers.specs.Registers.{registers_at};
-ghost use Rattle.registers.specs.Exchange.{read_reply, longest_reply};
+ghost use Rattle.registers.specs.Exchange.{word_bytes, read_reply, longest_reply};
 ghost use Rattle.registers.specs.Inner.{read_told, Readable};
-ghost use Rattle.modbus.specs.Reply.{Holds};
-ghost use Rattle.readout.specs.Words.{with_word, with_words};
 
 use modbus::Reply;
 use rules::Report;
@@ -49,57 +48,37 @@ pub fn registers_at(report: Report) -> [u16; registers::REGISTERS]
     }
 }
 
-// A reply with a word at its end.
-fn put_word(reply: Reply, word: u16) -> Reply
-    requires { reply.len + 2 ≤ longest_reply }
-    ensures { result ≡ with_word reply word }
+// Puts words to the end of a reply, each the high byte first.
+fn put_words(reply: &mut Reply, words: &[u16])
+    requires { array_vec_len reply.old + 2 * length words.now ≤ longest_reply }
+    ensures { reply.new.items ≡ reply.old.items ++ word_bytes words.now }
 {
-    let mut next = reply;
-    let at = next.len;
-    next.bytes[at] = (word / 256) as u8;
-    next.bytes[at + 1] = (word % 256) as u8;
-    next.len = at + 2;
-    next
-}
-
-// A reply with words at its end.
-fn put_words(reply: Reply, words: &[u16]) -> Reply
-    requires { reply.len + 2 * length words.now ≤ longest_reply }
-    ensures { result ≡ with_words reply words.now }
-{
-    let mut next = reply;
-    let mut i = 0;
-    while i < words.len() {
-        next = put_word(next, words[i]);
-        i += 1;
+    for word in words {
+        reply.try_extend_from_slice(&word.to_be_bytes()).unwrap();
     }
-    next
 }
 
 // The function, how many bytes follow, and the registers asked for.
 fn read_words(words: [u16; registers::REGISTERS], request: &[u8]) -> Reply
     requires { Readable request.now }
-    ensures { Holds result (read_reply words request.now) }
+    ensures { result.items ≡ read_reply words request.now }
 {
     let address = modbus::word_at(request, 1) as usize;
     let quantity = modbus::word_at(request, 3) as usize;
-    let end = address + quantity;
-    let function = registers::READ_HOLDING;
     let count = (2 * quantity) as u8;
-    let begun = Reply {
-        bytes: [function, count, 0, 0, 0, 0, 0, 0, 0, 0, 0, 0, 0, 0, 0, 0],
-        len: 2,
-    };
-    put_words(begun, &words[address..end])
+    let mut reply = Reply::new();
+    reply.push(registers::READ_HOLDING);
+    reply.push(count);
+    put_words(&mut reply, &words[address..address + quantity]);
+    reply
 }
 
 // The reply to a request of function 03.
 pub fn read(words: [u16; registers::REGISTERS], request: &[u8]) -> Reply
-    ensures { Holds result (read_told words request.now) }
+    ensures { result.items ≡ read_told words request.now }
 {
-    let fault = modbus::read_fault(request);
-    if fault != 0 {
-        return modbus::exception(registers::READ_HOLDING, fault);
+    match modbus::check_read(request) {
+        Ok(()) => read_words(words, request),
+        Err(exception) => modbus::exception(registers::READ_HOLDING, exception),
     }
-    read_words(words, request)
 }

@@ -16,7 +16,6 @@ use Rattle.registers.specs.Registers.{registers_at, registers_of}
 use Rattle.registers.specs.Exchange.{read_holding, write_single, function_of}
 use Rattle.registers.specs.Inner.{read_told}
 use Rattle.registers.proofs.ExchangeLaws.{empty_exchange, refused_exchange, other_exchange, read_exchange, write_exchange}
-use Rattle.modbus.specs.Reply.{Holds}
 use Rattle.panel.proofs.respond.Goals as goal
 
 pub returns-then-request-eq0 : goal.returns-then-request-eq0
@@ -47,7 +46,7 @@ returns-then-function-eq-READ_HOLDING c =
     let words_are : c.registers_at-words.result ≡ registers_of s.search = c.registers_at-words.ensures ∙ ap registers_at c.report-report.ensures in
     rw (read_exchange s.search s.request.now some fine reads)
     (record {
-      reply = subst (λ (words : List ℕ). Holds c.read.result (read_told words s.request.now)) words_are c.read.ensures;
+      reply = c.read.ensures ∙ ap (λ (words : List ℕ). read_told words s.request.now) words_are;
       search = refl;
     })
 
