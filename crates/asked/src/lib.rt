@@ -9,9 +9,9 @@ ghost use Rattle.outcomes.specs.Sheet.{sheet_of};
 ghost use Rattle.seasons.specs.Season.{season_of, season_row_of};
 ghost use Rattle.surveying.specs.Survey.{surveyed_of, list_of, surveyed_row_of};
 
-use rules::{Opening, Quotation, Row};
-use seasons::{Counted, SeasonRow};
-use surveying::{Surveyed, SurveyedRow};
+use rules::{Opening, Quotation, Refusal, Row};
+use seasons::SeasonRow;
+use surveying::SurveyedRow;
 
 // t and the most answers that an opening may need.
 pub fn quotation(opening: Opening) -> Quotation
@@ -45,14 +45,14 @@ pub fn season_row(numbers: &[u16]) -> SeasonRow
     let counted = report.counted;
     let tallies = report.tallies;
     match counted {
-        Counted::Outcomes { count } => SeasonRow {
+        Ok(count) => SeasonRow {
             kind: rules::SEASON_KIND,
             outcomes: count,
             number: 0,
             place: 0,
             tallies,
         },
-        Counted::Refused { number, place } => SeasonRow {
+        Err(Refusal { number, place }) => SeasonRow {
             kind: rules::REFUSED_KIND,
             outcomes: 0,
             number,
@@ -67,15 +67,14 @@ pub fn survey_row(lowest: i32, pitch: i32, values: &[i32], list: &mut [u32]) -> 
     ensures { (result ≡ surveyed_row_of (surveyed_of lowest pitch values.now (length list.old)))
         × (list.new ≡ list_of lowest pitch values.now list.old) }
 {
-    let told = survey::survey(lowest, pitch, values, list);
-    match told {
-        Surveyed::Found { pairs } => SurveyedRow {
+    match survey::survey(lowest, pitch, values, list) {
+        Ok(pairs) => SurveyedRow {
             kind: rules::SURVEYED_KIND,
             pairs,
             number: 0,
             place: 0,
         },
-        Surveyed::Refused { number, place } => {
+        Err(Refusal { number, place }) => {
             let kind = rules::REFUSED_KIND;
             SurveyedRow {
                 kind,

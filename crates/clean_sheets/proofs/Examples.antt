@@ -1,12 +1,13 @@
 -- Clean sheets worked by hand, in lists with one statement each: the sheet of a search, what is told and left in a buffer, and a sheet
 -- cleaned. All hold by computation.
 -- Assumes nothing.
-use Rattle.std.specs.Prelude.{ℕ, ◌+◌, ◌≡◌, refl, List, [], ◌∷◌, ◌++◌, ℤ, pos, length, take, replicate}
+use Rattle.std.specs.Prelude.{ℕ, ◌+◌, ◌≡◌, refl, List, [], ◌∷◌, ◌++◌, ℤ, pos, length, take, replicate, Result, Ok, Err}
 use Prim.Native.String.{String}
 use Rattle.rules.specs.declared.Opening.{Opening}
+use Rattle.rules.specs.declared.Refusal.{Refusal}
 use Rattle.rules.specs.Rules.{slots, method_of, tolerance_at, start_of, stopped_of, forward_of, displacement_of, linear_of, cross_of, rational_of}
 use Rattle.rules.specs.Rules.{doubled_of, opposed, partner_of, streak_of, renewed_of, advance_of, step_of, reach_of, offset_of, next_of}
-use Rattle.rules.specs.Refusals.{opening_refusal, answer_refusal, same_side}
+use Rattle.rules.specs.Refusals.{refusal, opening_refusal, answer_refusal, same_side}
 use Rattle.rules.specs.Search.{begin_of, offer_of, take_of, progress_of, answers_of, bracket_report, report_at}
 use Rattle.held.specs.declared.Search.{Search}
 use Rattle.held.specs.Held.{standing_of, held_report}
@@ -17,7 +18,6 @@ use Rattle.forms.proofs.Examples.{bytes, up_to100, negative}
 use Rattle.lines.specs.Decimal.{decimal_within, decimal_of, number_fields}
 use Rattle.printing.specs.Printed.{record_with, record_of, placed}
 use Rattle.outcomes.specs.Sheet.{outcome_of, sheet_of}
-use Rattle.clean_sheets.specs.declared.Written.{Written}
 use Rattle.clean_sheets.specs.Clean.{with_points, number_text, answers_text, sheet_text, clean_of}
 use Rattle.clean_sheets.specs.Clean.{longest_sheet, written_of, buffer_of, cleaned_of, rewritten_of}
 
@@ -76,10 +76,10 @@ bound = refl
 record Writing : Type 0 where
   search : Search
   size : ℕ
-  told : Written
+  told : Result ℕ Refusal
   left : List ℕ
 
-abbrev writing : Search → ℕ → Written → List ℕ → Writing
+abbrev writing : Search → ℕ → Result ℕ Refusal → List ℕ → Writing
 writing s n told left = record { search = s; size = n; told = told; left = left }
 
 -- of equal ends, and claiming so many answers
@@ -89,14 +89,14 @@ claiming n = record { opening = opening 1 5 5 1; count = n; slots = replicate sl
 abbrev writings : List Writing
 writings =
     -- with room; exactly as long; one byte short
-    writing (holds up_to100 []) 13 (Written.Sheet 11) (bytes "1,0,100,1\r\n" ++ replicate 2 9)
-    ∷ writing (holds up_to100 []) 11 (Written.Sheet 11) (bytes "1,0,100,1\r\n")
-    ∷ writing (holds up_to100 []) 10 (Written.Refused 13 0) (replicate 10 9)
+    writing (holds up_to100 []) 13 (Ok 11) (bytes "1,0,100,1\r\n" ++ replicate 2 9)
+    ∷ writing (holds up_to100 []) 11 (Ok 11) (bytes "1,0,100,1\r\n")
+    ∷ writing (holds up_to100 []) 10 (Err (refusal 13 0)) (replicate 10 9)
     -- the search itself comes first: 9, before its opening; the opening, also of a search whose slots are all taken; a held value, with its index
-    ∷ writing (claiming (slots + 1)) 0 (Written.Refused 9 0) []
-    ∷ writing (claiming slots) 0 (Written.Refused 3 0) []
-    ∷ writing (holds (opening 1 5 5 1) []) 0 (Written.Refused 3 0) []
-    ∷ writing (holds up_to100 (pos 5 ∷ pos 6 ∷ [])) 30 (Written.Refused 8 1) (replicate 30 9)
+    ∷ writing (claiming (slots + 1)) 0 (Err (refusal 9 0)) []
+    ∷ writing (claiming slots) 0 (Err (refusal 3 0)) []
+    ∷ writing (holds (opening 1 5 5 1) []) 0 (Err (refusal 3 0)) []
+    ∷ writing (holds up_to100 (pos 5 ∷ pos 6 ∷ [])) 30 (Err (refusal 8 1)) (replicate 30 9)
     ∷ []
 
 abbrev AllWritten : List Writing → Type 0

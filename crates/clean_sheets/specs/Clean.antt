@@ -2,13 +2,15 @@
 -- no quotes, no leading zeros, no −0, CR LF after every record; the opening in four fields where p is 0, as request 2026-07 says it; and what
 -- is told when it is to be written into a lent buffer. A text is the list of its bytes.
 -- Assumes nothing.
-use Rattle.std.specs.Prelude.{ℕ, suc, ◌+◌, ◌*◌, cond, List, [], ◌∷◌, ◌++◌, ltb, ℤ, pos, negsuc, length}
+use Rattle.std.specs.Prelude.{ℕ, suc, ◌+◌, ◌*◌, cond, List, [], ◌∷◌, ◌++◌, ltb, ℤ, pos, negsuc, length, Result, Ok, Err}
 use Rattle.integers.specs.Signs.{eq_z}
 use Rattle.rules.specs.declared.Opening.{Opening}
 use Rattle.rules.specs.declared.Answer.{Answer}
 use Rattle.rules.specs.declared.Progress.{Progress}
 use Rattle.rules.specs.declared.Report.{Report}
+use Rattle.rules.specs.declared.Refusal.{Refusal}
 use Rattle.rules.specs.Rules.{slots, first_of, second_of, next_of}
+use Rattle.rules.specs.Refusals.{refusal}
 use Rattle.rules.specs.Search.{begin_of, take_of, is_refusal}
 use Rattle.rules.specs.Rows.{refused_kind, written_kind}
 use Rattle.held.specs.declared.Search.{Search}
@@ -18,7 +20,6 @@ use Rattle.forms.specs.Bytes.{cr, lf, comma, minus}
 use Rattle.lines.specs.Decimal.{decimal_of}
 use Rattle.printing.specs.Printed.{record_of, placed}
 use Rattle.outcomes.specs.Sheet.{sheet_of}
-use Rattle.clean_sheets.specs.declared.Written.{Written}
 use Rattle.clean_sheets.specs.declared.WrittenRow.{WrittenRow}
 
 -- ---- the answers of a search
@@ -79,18 +80,18 @@ abbrev pub whole_buffer : ℕ
 whole_buffer = 0
 
 -- the sheet's length, or that the buffer is shorter
-abbrev pub fitted_in : List ℕ → List ℕ → Written
+abbrev pub fitted_in : List ℕ → List ℕ → Result ℕ Refusal
 fitted_in buffer text =
-    cond (ltb (length buffer) (length text)) (Written.Refused buffer_too_short whole_buffer) (Written.Sheet (length text))
+    cond (ltb (length buffer) (length text)) (Err (refusal buffer_too_short whole_buffer)) (Ok (length text))
 
 -- the search itself is checked first: its refusal, with its place, or else the buffer
-abbrev pub written_after : Report → List ℕ → List ℕ → Written
-written_after (Report.Refused number place) buffer text = Written.Refused number place
+abbrev pub written_after : Report → List ℕ → List ℕ → Result ℕ Refusal
+written_after (Report.Refused number place) buffer text = Err (refusal number place)
 written_after (Report.Next point taken) buffer text = fitted_in buffer text
 written_after (Report.Stop lower upper better taken) buffer text = fitted_in buffer text
 
 -- what is told
-unfoldable pub written_of : Search → List ℕ → Written
+unfoldable pub written_of : Search → List ℕ → Result ℕ Refusal
 written_of s buffer = written_after (held_report s) buffer (clean_of s)
 
 -- the buffer afterwards: the sheet at its beginning, and its further bytes as they were; on a refusal all of them as they were
@@ -98,9 +99,9 @@ unfoldable pub buffer_of : Search → List ℕ → List ℕ
 buffer_of s buffer = cond (is_refusal (held_report s)) buffer (placed (clean_of s) buffer)
 
 -- as plain numbers
-abbrev pub written_row_of : Written → WrittenRow
-written_row_of (Written.Sheet length) = record { kind = written_kind; length = length; number = 0; place = 0 }
-written_row_of (Written.Refused number place) = record { kind = refused_kind; length = 0; number = number; place = place }
+abbrev pub written_row_of : Result ℕ Refusal → WrittenRow
+written_row_of (Ok length) = record { kind = written_kind; length = length; number = 0; place = 0 }
+written_row_of (Err r) = record { kind = refused_kind; length = 0; number = r.number; place = r.place }
 
 -- ---- a sheet cleaned
 

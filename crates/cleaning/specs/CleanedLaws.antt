@@ -1,17 +1,17 @@
 -- The laws of a sheet cleaned into a buffer: what is answered for a refused outcome, and for an accepted one by what the writer tells.
 -- Assumes nothing.
-use Rattle.std.specs.Prelude.{ℕ, ◌≤◌, ◌≡◌, refl, Bool, true, false, cond, List, ltb, length}
+use Rattle.std.specs.Prelude.{ℕ, ◌≤◌, ◌≡◌, refl, Bool, true, false, cond, List, ltb, length, Ok, Err}
 use Rattle.std.proofs.Common.{sym, ap, subst, ◌∙◌, arith, ltb-true, ltb-false, le-leb}
 use Rattle.std.proofs.lemmas.Bool.{lt-leb}
 use Rattle.integers.proofs.SignsLaws.{never}
 use Rattle.rules.specs.declared.Report.{Report}
+use Rattle.rules.specs.Refusals.{refusal}
 use Rattle.rules.specs.Search.{is_refusal}
 use Rattle.held.specs.declared.Search.{Search}
 use Rattle.held.specs.declared.Entered.{Entered}
 use Rattle.held.specs.Held.{held_report}
 use Rattle.printing.specs.Printed.{record_of, longest_record, placed, placed_length}
 use Rattle.outcomes.specs.Sheet.{sheet_of}
-use Rattle.clean_sheets.specs.declared.Written.{Written}
 use Rattle.clean_sheets.specs.Clean.{clean_of, longest_sheet, buffer_too_short, whole_buffer, fitted_in, written_after, written_of, buffer_of, cleaned_of}
 use Rattle.clean_sheets.proofs.ClaimsHold.{accepted_cleaned, search_accepted, rewritten}
 use Rattle.cleaning.specs.Cleaned.{length_told, outcome_length, outcome_left}
@@ -23,7 +23,7 @@ unfolding placed_length
 fitted_length buffer text = go (ltb (length buffer) (length text)) refl
   where
     go : (b : Bool) → ltb (length buffer) (length text) ≡ b
-        → length_told (cond b (Written.Refused buffer_too_short whole_buffer) (Written.Sheet (length text))) ≡ placed_length text buffer
+        → length_told (cond b (Err (refusal buffer_too_short whole_buffer)) (Ok (length text))) ≡ placed_length text buffer
     go true e = simp (lt-leb (length text) (length buffer) (ltb-true (length buffer) (length text) e))
     go false e = simp (le-leb (length text) (length buffer) (ltb-false (length buffer) (length text) e))
 

@@ -9,7 +9,6 @@ ghost use Rattle.clean_sheets.specs.Clean.{longest_sheet, rewritten_of};
 ghost use Rattle.clean_sheets.specs.Claims.{Rewritten};
 ghost use Rattle.cleaning.specs.Cleaned.{outcome_length, outcome_left};
 
-use clean_sheets::Written;
 use held::Entered;
 
 // Writes an outcome at the beginning of `out`, whose further bytes keep their contents, and answers its length: of a refusal the record that
@@ -25,13 +24,9 @@ pub fn write_outcome(e: Entered, out: &mut [u8]) -> usize
         return printing::write_report(report, out);
     }
     let search = e.search;
-    let written = writing::write_sheet(search, out);
-    match written {
-        Written::Sheet { length } => length as usize,
-        Written::Refused {
-            number: _,
-            place: _,
-        } => 0,
+    match writing::write_sheet(search, out) {
+        Ok(length) => length as usize,
+        Err(_) => 0,
     }
 }
 

@@ -2,14 +2,13 @@
 -- host's own search in any mixture, one record whose fields are the demand's clauses, and what request 2026-03 says of s. Nothing is
 -- proved here: `run` in RunHolds is the proof.
 -- Assumes nothing.
-use Rattle.std.specs.Prelude.{ℕ, ◌+◌, ◌*◌, ◌^◌, ◌≤◌, ◌<◌, ◌≡◌, false, ◌↔◌, List, [], ◌∷◌, map, nat_abs, length, take}
+use Rattle.std.specs.Prelude.{ℕ, ◌+◌, ◌*◌, ◌^◌, ◌≤◌, ◌<◌, ◌≡◌, false, ◌↔◌, List, [], ◌∷◌, map, nat_abs, length, take, Ok}
 use Rattle.integers.specs.Digits.{Least}
 use Rattle.rules.specs.declared.Opening.{Opening}
 use Rattle.rules.specs.declared.Answer.{Answer}
 use Rattle.rules.specs.declared.Bracket.{Bracket}
 use Rattle.rules.specs.declared.Progress.{Progress}
 use Rattle.rules.specs.declared.Report.{Report}
-use Rattle.rules.specs.declared.Quote.{Quote}
 use Rattle.rules.specs.Rules.{padded, method_of, width_of, allowed}
 use Rattle.rules.specs.Refusals.{Accepted}
 use Rattle.rules.specs.Search.{progress_of, report_of, distance_of, t_of, most_of, quote_of}
@@ -97,7 +96,7 @@ pub record Run (o : Opening) (calls : List Call) : Type 0 where
   -- and these are the texts that the reader takes as the opening and the journal's answers, all of them and no other
   pub spelled : (i : ℕ) (text : List ℕ) → ReadAs text o (journal_at o calls i) ↔ SheetText text o (journal_at o calls i)
   -- the t told for the opening is demand 3's t, and the most answers told are 2 + (m + 1) t
-  pub quoted : quote_of o ≡ Quote.Quoted (t_of o) (most_of o)
+  pub quoted : quote_of o ≡ Ok (record { t = t_of o; most = most_of o })
   pub least : Least (λ t. distance_of o ≤ nat_abs o.tolerance * 2 ^ (t + 1)) (t_of o)
 
 -- for every accepted opening and every list of calls

@@ -1,9 +1,8 @@
 -- The claims on trial loads, request 2026-11. Nothing is proved here: ClaimsHold has the proofs. The contract of `load::load` cites `EveryLoad`.
 -- Assumes nothing.
-use Rattle.std.specs.Prelude.{ℕ, suc, ◌≤◌, ◌<◌, ◌≡◌, true, not, pos}
+use Rattle.std.specs.Prelude.{ℕ, suc, ◌≤◌, ◌<◌, ◌≡◌, true, not, pos, Ok}
 use Rattle.integers.specs.Digits.{Least}
 use Rattle.rules.specs.declared.Report.{Report}
-use Rattle.rules.specs.declared.Quote.{Quote}
 use Rattle.rules.specs.Search.{is_refusal, t_of, most_of, quote_of}
 use Rattle.held.specs.Held.{values_of, held_report, open_of, enter_of}
 use Rattle.outcomes.specs.Sheet.{sheet_of}
@@ -41,7 +40,7 @@ pub record Load (seed : ℕ) : Type 0 where
   -- it is accepted, and has stopped
   pub stopped : Stopped (values_drawn seed) (load_of seed).report
   -- within the quoted number of answers
-  pub quoted : quote_of (load_opening seed) ≡ Quote.Quoted (t_of (load_opening seed)) (most_of (load_opening seed))
+  pub quoted : quote_of (load_opening seed) ≡ Ok (record { t = t_of (load_opening seed); most = most_of (load_opening seed) })
   pub within : values_drawn seed ≤ most_of (load_opening seed)
   -- its clean sheet is read as the load
   pub sheet : sheet_of (clean_of (load_of seed).search) ≡ load_of seed

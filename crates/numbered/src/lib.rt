@@ -11,9 +11,9 @@ ghost use Rattle.changeover.specs.Changeover.{changed_search};
 ghost use Rattle.loading.specs.Loading.{load_of};
 ghost use Rattle.numbered.specs.Inner.{numbered_of};
 
-use clean_sheets::{Written, WrittenRow};
+use clean_sheets::WrittenRow;
 use held::{Entered, Search};
-use rules::{Opening, Row};
+use rules::{Opening, Refusal, Row};
 
 // A report as plain numbers, and beside it the search as it then is.
 #[repr(C)]
@@ -90,15 +90,14 @@ pub fn step_load(seed: u32) -> Answered
 pub fn step_write(search: Search, out: &mut [u8]) -> WrittenRow
     ensures { (result ≡ written_row_of (written_of search out.old)) × (out.new ≡ buffer_of search out.old) }
 {
-    let told = writing::write_sheet(search, out);
-    match told {
-        Written::Sheet { length } => WrittenRow {
+    match writing::write_sheet(search, out) {
+        Ok(length) => WrittenRow {
             kind: rules::WRITTEN_KIND,
             length,
             number: 0,
             place: 0,
         },
-        Written::Refused { number, place } => WrittenRow {
+        Err(Refusal { number, place }) => WrittenRow {
             kind: rules::REFUSED_KIND,
             length: 0,
             number,

@@ -4,7 +4,7 @@
 ghost use Rattle.std.specs.Prelude.{◌≡◌};
 ghost use Rattle.rules.specs.Rows.{row_of, quotation_of};
 
-use rules::{Quotation, Quote, Report, Row};
+use rules::{Quotation, Quote, Refusal, Report, Row};
 
 // A report as plain numbers.
 pub fn row_of(report: Report) -> Row
@@ -49,19 +49,19 @@ pub fn row_of(report: Report) -> Row
     }
 }
 
-// A quote as plain numbers.
-pub fn quotation_of(quote: Quote) -> Quotation
+// A quote or the refusal of one as plain numbers.
+pub fn quotation_of(quote: Result<Quote, Refusal>) -> Quotation
     ensures { result ≡ quotation_of quote }
 {
     match quote {
-        Quote::Quoted { t, most } => Quotation {
+        Ok(Quote { t, most }) => Quotation {
             kind: rules::QUOTED_KIND,
             t,
             most,
             number: 0,
             place: 0,
         },
-        Quote::Refused { number, place } => Quotation {
+        Err(Refusal { number, place }) => Quotation {
             kind: rules::REFUSED_KIND,
             t: 0,
             most: 0,

@@ -1,15 +1,14 @@
 -- Worked examples of single definitions, each by computation.
 -- Assumes nothing.
-use Rattle.std.specs.Prelude.{ℕ, ◌≡◌, refl, true, ℤ, pos, neg_ℤ}
+use Rattle.std.specs.Prelude.{ℕ, ◌≡◌, refl, true, ℤ, pos, neg_ℤ, Ok, Err}
 use mathlib.Core.List.{List, [], ◌∷◌, map, zip_with}
 use Rattle.integers.specs.Digits.{digits, halvings}
 use Rattle.rules.specs.declared.Opening.{Opening}
 use Rattle.rules.specs.declared.Sample.{Sample}
 use Rattle.rules.specs.declared.Fraction.{Fraction}
 use Rattle.rules.specs.declared.Report.{Report}
-use Rattle.rules.specs.declared.Quote.{Quote}
 use Rattle.rules.specs.Rules.{method_of, forward_of, displacement_of, at_better, no_estimate, linear_of, cross_of, rational_of, streak_of}
-use Rattle.rules.specs.Refusals.{opening_refusal}
+use Rattle.rules.specs.Refusals.{refusal, opening_refusal}
 use Rattle.rules.specs.Search.{turns_of, quote_of}
 use Rattle.rules.specs.Streak.{streak_over}
 use Rattle.rules.specs.Rows.{row_of, row_numbers, quotation_of}
@@ -134,33 +133,33 @@ with_share method tolerance share = record { method = method; first = pos 60000;
 abbrev opening : (method tolerance : ℤ) → Opening
 opening method tolerance = with_share method tolerance (pos 0)
 
-whole_range_by_m : quote_of (opening (pos 1) (pos 1)) ≡ Quote.Quoted 15 62
+whole_range_by_m : quote_of (opening (pos 1) (pos 1)) ≡ Ok (record { t = 15; most = 62 })
 unfolding quote_of opening_refusal method_of turns_of digits halvings
 whole_range_by_m = refl
 
-whole_range_by_r : quote_of (opening (pos 2) (pos 1)) ≡ Quote.Quoted 15 77
+whole_range_by_r : quote_of (opening (pos 2) (pos 1)) ≡ Ok (record { t = 15; most = 77 })
 unfolding quote_of opening_refusal method_of turns_of digits halvings
 whole_range_by_r = refl
 
 -- by the house default as by R
-whole_range_by_default : quote_of (opening (pos 0) (pos 1)) ≡ Quote.Quoted 15 77
+whole_range_by_default : quote_of (opening (pos 0) (pos 1)) ≡ Ok (record { t = 15; most = 77 })
 unfolding quote_of opening_refusal method_of turns_of digits halvings
 whole_range_by_default = refl
 
-largest_tolerance_lem : quote_of (opening (pos 1) (pos 5000)) ≡ Quote.Quoted 3 14
+largest_tolerance_lem : quote_of (opening (pos 1) (pos 5000)) ≡ Ok (record { t = 3; most = 14 })
 unfolding quote_of opening_refusal method_of turns_of digits halvings
 largest_tolerance_lem = refl
 
-quote_refused : quote_of (opening (pos 1) (pos 0)) ≡ Quote.Refused 4 0
+quote_refused : quote_of (opening (pos 1) (pos 0)) ≡ Err (refusal 4 0)
 unfolding quote_of opening_refusal
 quote_refused = refl
 
 -- from τ alone, whatever the share; one out of range is refused
-quote_with_share : quote_of (with_share (pos 0) (pos 1) (pos 100)) ≡ Quote.Quoted 15 77
+quote_with_share : quote_of (with_share (pos 0) (pos 1) (pos 100)) ≡ Ok (record { t = 15; most = 77 })
 unfolding quote_of opening_refusal method_of turns_of digits halvings
 quote_with_share = refl
 
-quote_share_refused : quote_of (with_share (pos 1) (pos 1) (pos 101)) ≡ Quote.Refused 17 0
+quote_share_refused : quote_of (with_share (pos 1) (pos 1) (pos 101)) ≡ Err (refusal 17 0)
 unfolding quote_of opening_refusal
 quote_share_refused = refl
 
@@ -184,8 +183,8 @@ stop_row = refl
 refused_row : row_numbers (row_of (Report.Refused 6 4)) ≡ 3 ∷ 0 ∷ 0 ∷ 0 ∷ 0 ∷ 0 ∷ 6 ∷ 4 ∷ []
 refused_row = refl
 
-quotation : quotation_of (Quote.Quoted 15 62) ≡ record { kind = 4; t = 15; most = 62; number = 0; place = 0 }
+quotation : quotation_of (Ok (record { t = 15; most = 62 })) ≡ record { kind = 4; t = 15; most = 62; number = 0; place = 0 }
 quotation = refl
 
-refused_quotation : quotation_of (Quote.Refused 4 0) ≡ record { kind = 3; t = 0; most = 0; number = 4; place = 0 }
+refused_quotation : quotation_of (Err (refusal 4 0)) ≡ record { kind = 3; t = 0; most = 0; number = 4; place = 0 }
 refused_quotation = refl

@@ -5,6 +5,7 @@ use Rattle.std.specs.Prelude.{ℕ, ◌≡◌, Bool, cond, ◌&&◌, ◌||◌, Li
 use Rattle.std.specs.Int.Signed.{lt_z}
 use Rattle.integers.specs.Signs.{eq_z}
 use Rattle.rules.specs.declared.Opening.{Opening}
+use Rattle.rules.specs.declared.Refusal.{Refusal}
 use Rattle.rules.specs.Rules.{highest, largest_tolerance, largest_share, largest_value}
 
 -- ---- the numbers, in the papers' words
@@ -48,6 +49,11 @@ same_sign = 8
 -- a held search whose count is above the slots
 abbrev pub count_above : ℕ
 count_above = 9
+
+-- ---- with its place
+
+abbrev pub refusal : (number place : ℕ) → Refusal
+refusal number place = record { number = number; place = place }
 
 -- ---- the first that applies
 

@@ -1,10 +1,11 @@
 -- A report and a quote as plain numbers, for C and for lists of numbers: the kind, then each number under its own name, and 0 for those
 -- that the kind has not.
 -- Assumes nothing.
-use Rattle.std.specs.Prelude.{ℕ, ◌*◌, List, [], ◌∷◌, ◌++◌, length, drop}
+use Rattle.std.specs.Prelude.{ℕ, ◌*◌, List, [], ◌∷◌, ◌++◌, length, drop, Result, Ok, Err}
 use Rattle.rules.specs.declared.Report.{Report}
 use Rattle.rules.specs.declared.Row.{Row}
 use Rattle.rules.specs.declared.Quote.{Quote}
+use Rattle.rules.specs.declared.Refusal.{Refusal}
 use Rattle.rules.specs.declared.Quotation.{Quotation}
 
 -- ---- the kinds
@@ -66,6 +67,6 @@ written_over rs list = rows_of rs ++ drop (numbers_each * length rs) list
 
 -- ---- the numbers of a quote: t and the most answers, or a refusal
 
-abbrev pub quotation_of : Quote → Quotation
-quotation_of (Quote.Quoted t most) = record { kind = quoted_kind; t = t; most = most; number = 0; place = 0 }
-quotation_of (Quote.Refused number place) = record { kind = refused_kind; t = 0; most = 0; number = number; place = place }
+abbrev pub quotation_of : Result Quote Refusal → Quotation
+quotation_of (Ok q) = record { kind = quoted_kind; t = q.t; most = q.most; number = 0; place = 0 }
+quotation_of (Err r) = record { kind = refused_kind; t = 0; most = 0; number = r.number; place = r.place }

@@ -1,6 +1,6 @@
 -- The search over a list of values, from scratch: where it stands after the values so far, the report on that, and the quote.
 -- Assumes nothing.
-use Rattle.std.specs.Prelude.{ℕ, ◌+◌, ◌-◌, ◌*◌, ◌/◌, Bool, true, false, cond, not, ◌&&◌, eqb, ℤ, pos, nat_abs}
+use Rattle.std.specs.Prelude.{ℕ, ◌+◌, ◌-◌, ◌*◌, ◌/◌, Bool, true, false, cond, not, ◌&&◌, eqb, ℤ, pos, nat_abs, Result, Ok, Err}
 use mathlib.Core.List.{List, [], ◌∷◌, foldl}
 use Rattle.integers.specs.Digits.{digits}
 use Rattle.integers.specs.Signs.{eq_z}
@@ -9,8 +9,9 @@ use Rattle.rules.specs.declared.Bracket.{Bracket}
 use Rattle.rules.specs.declared.Progress.{Progress}
 use Rattle.rules.specs.declared.Report.{Report}
 use Rattle.rules.specs.declared.Quote.{Quote}
+use Rattle.rules.specs.declared.Refusal.{Refusal}
 use Rattle.rules.specs.Rules.{method_of, first_of, second_of, start_of, lower_of, upper_of, gap_of, stopped_of, next_of, advance_of, allowed}
-use Rattle.rules.specs.Refusals.{opening_refusal, answer_refusal, too_large, same_side}
+use Rattle.rules.specs.Refusals.{refusal, opening_refusal, answer_refusal, too_large, same_side}
 
 -- ---- where a search stands
 
@@ -129,5 +130,5 @@ t_of o = turns_of (nat_abs o.tolerance) (distance_of o)
 abbrev pub most_of : Opening → ℕ
 most_of o = 2 + (allowed (method_of o) + 1) * t_of o
 
-unfoldable pub quote_of : Opening → Quote
-quote_of o = cond (eqb (opening_refusal o) 0) (Quote.Quoted (t_of o) (most_of o)) (Quote.Refused (opening_refusal o) 0)
+unfoldable pub quote_of : Opening → Result Quote Refusal
+quote_of o = cond (eqb (opening_refusal o) 0) (Ok (record { t = t_of o; most = most_of o })) (Err (refusal (opening_refusal o) 0))

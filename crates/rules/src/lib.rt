@@ -195,14 +195,14 @@ pub struct Refusal {
     pub place: u32,
 }
 
-// What is told of an opening before the first trial: t and the most answers that may be needed, or a refusal.
+// What is quoted of an opening before the first trial: t and the most answers that may be needed.
 #[derive(Clone, Copy)]
-pub enum Quote {
-    Quoted { t: u32, most: u32 },
-    Refused { number: u32, place: u32 },
+pub struct Quote {
+    pub t: u32,
+    pub most: u32,
 }
 
-// A quote as plain numbers: `kind` says whether it is a quote or a refusal, and a number that its kind has not is 0.
+// A quote or the refusal of one as plain numbers: `kind` says whether it is a quote or a refusal, and a number that its kind has not is 0.
 #[repr(C)]
 #[derive(Clone, Copy)]
 pub struct Quotation {

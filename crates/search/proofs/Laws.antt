@@ -7,11 +7,11 @@ use native.Mathlib.Omega.{arith}
 use borrow.Author.Tests.{eq-eqb}
 use lib.Count.{count_leading_zeros, leading_length}
 use lib.Pow.{pow_mono}
+use Rattle.std.specs.Prelude.{Ok}
 use Rattle.integers.specs.Digits.{digits}
 use Rattle.integers.proofs.DigitsLaws.{digits_least}
 use Rattle.rules.specs.declared.Opening.{Opening}
 use Rattle.rules.specs.declared.Method.{Method}
-use Rattle.rules.specs.declared.Quote.{Quote}
 use Rattle.rules.specs.Rules.{slots, method_of, allowed}
 use Rattle.rules.specs.Refusals.{opening_refusal}
 use Rattle.rules.proofs.RefusalsLaws.{Opened}
@@ -40,6 +40,6 @@ module _ (o : Opening) (a t : ℕ) (e : a ≡ allowed (method_of o)) (f : t ≡ 
   pub quote_fits : Opened o → 2 + (a + 1) * t ≤ slots
   quote_fits op = rw (e, f) (most_slots o op)
 
-  pub quote_is : opening_refusal o ≡ 0 → Quote.Quoted t (2 + (a + 1) * t) ≡ quote_of o
+  pub quote_is : opening_refusal o ≡ 0 → Ok (record { t = t; most = 2 + (a + 1) * t }) ≡ quote_of o
   unfolding quote_of
   quote_is g = rw (e, f) (simp (eq-eqb _ 0 g))

@@ -6,7 +6,7 @@ ghost use Rattle.interpolation.specs.Ranges.{widest};
 ghost use Rattle.rules.specs.Rules.{allowed};
 ghost use Rattle.rules.specs.Search.{report_of, turns_of, quote_of};
 
-use rules::{Method, Opening, Quote, Report};
+use rules::{Method, Opening, Quote, Refusal, Report};
 
 // The report on an opening and the values answered so far, of any length: a walk with no answer after them.
 pub fn report_on(o: Opening, values: &[i32]) -> Report
@@ -37,23 +37,23 @@ fn turns(tolerance: u32, distance: u32) -> u32
 }
 
 // t and the most answers that an opening may need, from τ alone whatever the share is; or its refusal.
-pub fn quote(o: Opening) -> Quote
+pub fn quote(o: Opening) -> Result<Quote, Refusal>
     ensures { result ≡ quote_of o }
 {
     let n = refusals::opening_refusal(o);
     if n != 0 {
-        return Quote::Refused {
+        return Err(Refusal {
             number: n,
             place: 0,
-        };
+        });
     }
     let distance = brackets::gap(
         comparisons::magnitude(o.first),
         comparisons::magnitude(o.second),
     );
     let t = turns(comparisons::magnitude(o.tolerance), distance);
-    Quote::Quoted {
+    Ok(Quote {
         t,
         most: 2 + (allowed_streak(methods::method_of(o)) + 1) * t,
-    }
+    })
 }

@@ -1,27 +1,19 @@
 // The season report: a run of sheet outcomes is read once, and each outcome is entered into the tally of its method.
 #![tactic(auto)]
 
-ghost use Rattle.std.specs.Prelude.{◌≡◌, false, [], ◌∷◌, ◌+◌, ◌*◌, ◌≤◌, min, max, length};
+ghost use Rattle.std.specs.Prelude.{◌≡◌, false, [], ◌∷◌, ◌+◌, ◌*◌, ◌≤◌, min, length};
 ghost use Rattle.seasons.specs.Season.{other, outcomes_of, tally_of, tallies_of, most_outcomes, misshapen, no_tally, season_of};
 ghost use Rattle.seasons.specs.Claims.{added, EverySeason};
 ghost use Rattle.seasons.specs.Inner.{outcome_at, Bounded};
 
-use seasons::{Counted, Outcome, Season, Tally};
+use rules::Refusal;
+use seasons::{Outcome, Season, Tally};
 
 // The tally of a method: 0, 1, 2, or 3 for any other.
 fn booked_as(method: u16) -> usize
     ensures { result ≡ min method other }
 {
-    if method < seasons::OTHER {
-        return method as usize;
-    }
-    seasons::OTHER as usize
-}
-
-fn larger(a: u32, b: u32) -> u32
-    ensures { result ≡ max a b }
-{
-    if a < b { b } else { a }
+    method.min(seasons::OTHER) as usize
 }
 
 // A tally of no outcome.
@@ -43,21 +35,28 @@ fn with_outcome(tally: Tally, o: Outcome) -> Tally
     requires { Bounded tally most_outcomes }
     ensures { result ≡ added tally (tally_of (o ∷ [])) }
 {
-    let kind = o.kind;
-    let mut next = tally;
-    if seasons::UNFINISHED < kind {
-        next.refused = tally.refused + 1;
-        return next;
+    if seasons::UNFINISHED < o.kind {
+        return Tally {
+            refused: tally.refused + 1,
+            ..tally
+        };
     }
-    next.answers = tally.answers + o.answers as u32;
-    next.quoted = tally.quoted + o.quoted as u32;
-    next.largest = larger(tally.largest, o.answers as u32);
-    if kind == seasons::STOPPED {
-        next.stopped = tally.stopped + 1;
-        return next;
+    let searched = Tally {
+        answers: tally.answers + u32::from(o.answers),
+        quoted: tally.quoted + u32::from(o.quoted),
+        largest: tally.largest.max(u32::from(o.answers)),
+        ..tally
+    };
+    if o.kind == seasons::STOPPED {
+        return Tally {
+            stopped: tally.stopped + 1,
+            ..searched
+        };
     }
-    next.unfinished = tally.unfinished + 1;
-    next
+    Tally {
+        unfinished: tally.unfinished + 1,
+        ..searched
+    }
 }
 
 // The outcome at a place of a run.
@@ -79,14 +78,11 @@ fn tallies_of(numbers: &[u16]) -> [Tally; seasons::TALLIES]
     requires { misshapen (length numbers.now) ≡ false }
     ensures { result ≡ tallies_of (outcomes_of numbers.now) }
 {
-    let n = numbers.len() / seasons::NUMBERS;
     let mut tallies = [no_tally(); seasons::TALLIES];
-    let mut i: usize = 0;
-    while i < n {
+    for i in 0..numbers.len() / seasons::NUMBERS {
         let o = outcome_at(numbers, i);
         let k = booked_as(o.method);
         tallies[k] = with_outcome(tallies[k], o);
-        i += 1;
     }
     tallies
 }
@@ -109,17 +105,17 @@ pub fn season(outcomes: &[u16]) -> Season
 {
     if is_misshapen(outcomes.len()) {
         return Season {
-            counted: Counted::Refused {
+            counted: Err(Refusal {
                 number: rules::MISSHAPEN_RUN,
                 place: 0,
-            },
+            }),
             tallies: [no_tally(); seasons::TALLIES],
         };
     }
     let count = (outcomes.len() / seasons::NUMBERS) as u32;
     let tallies = tallies_of(outcomes);
     Season {
-        counted: Counted::Outcomes { count },
+        counted: Ok(count),
         tallies,
     }
 }

@@ -1,6 +1,6 @@
 -- The claim on every season holds.
 -- Assumes nothing.
-use Rattle.std.specs.Prelude.{ℕ, zero, suc, ◌+◌, ◌/◌, ◌≤◌, ◌<◌, ◌≡◌, refl, Bool, not, ◌||◌, eqb, get_or, set}
+use Rattle.std.specs.Prelude.{ℕ, zero, suc, ◌+◌, ◌/◌, ◌≤◌, ◌<◌, ◌≡◌, refl, Bool, not, ◌||◌, eqb, get_or, set, Ok}
 use Rattle.std.proofs.Common.{sym, ap, ap₂, ◌∙◌, eqb-true, length-append}
 use Rattle.std.proofs.Math.Bool.{true, false, cond}
 use mathlib.Core.List.{List, [], ◌∷◌, ◌++◌, map, zip_with}
@@ -10,7 +10,6 @@ use Rattle.std.proofs.Math.ListN.{length}
 use Rattle.integers.proofs.SignsLaws.{never}
 use Rattle.seasons.specs.declared.Outcome.{Outcome}
 use Rattle.seasons.specs.declared.Tally.{Tally}
-use Rattle.seasons.specs.declared.Counted.{Counted}
 use Rattle.seasons.specs.declared.Season.{Season}
 use Rattle.seasons.specs.Season.{outcomes_of, has_stopped, is_unfinished, was_refused, other, booked_as, filter, sum, tally_of, booked_under, tallies_of}
 use Rattle.seasons.specs.Season.{misshapen, no_tally, refused_season, season_on, season_of}
@@ -60,12 +59,12 @@ refused_only os ps o e =
 adds_up : (ns ms : List ℕ) → misshapen (length ns) ≡ false → misshapen (length ms) ≡ false → Together ns ms
     → season_of (ns ++ ms)
     ≡ record {
-      counted = Counted.Outcomes (length ns / 4 + length ms / 4);
+      counted = Ok (length ns / 4 + length ms / 4);
       tallies = zip_with added (season_of ns).tallies (season_of ms).tallies;
     }
 adds_up ns ms e f h =
     season_counted (ns ++ ms) (misshapen_not (length (ns ++ ms)) joined)
-    ∙ ap₂ (λ (n : ℕ) (ts : List Tally). record { counted = Counted.Outcomes n; tallies = ts }) counts tallies
+    ∙ ap₂ (λ (n : ℕ) (ts : List Tally). record { counted = Ok n; tallies = ts }) counts tallies
   where
     both : length (ns ++ ms) ≡ length ns + length ms
     both = length-append ns ms

@@ -1,10 +1,10 @@
 -- Season reports and outcomes of sheets worked by hand, in lists with one statement each. All hold by computation.
 -- Assumes nothing.
-use Rattle.std.specs.Prelude.{ℕ, ◌≡◌, refl, Bool, true, false, List, [], ◌∷◌, ◌++◌, replicate}
+use Rattle.std.specs.Prelude.{ℕ, ◌≡◌, refl, Bool, true, false, List, [], ◌∷◌, ◌++◌, replicate, Ok, Err}
 use Rattle.integers.specs.Digits.{halvings, digits}
 use Rattle.rules.specs.Rules.{method_of, tolerance_at, start_of, stopped_of, forward_of, displacement_of, linear_of, cross_of, rational_of}
 use Rattle.rules.specs.Rules.{doubled_of, opposed, partner_of, streak_of, renewed_of, advance_of, step_of, reach_of, offset_of, next_of}
-use Rattle.rules.specs.Refusals.{opening_refusal, answer_refusal, same_side}
+use Rattle.rules.specs.Refusals.{refusal, opening_refusal, answer_refusal, same_side}
 use Rattle.rules.specs.Search.{begin_of, offer_of, answers_of, bracket_report, report_at, turns_of, quote_of}
 use Rattle.forms.specs.Text.{records_of, fields_of}
 use Rattle.forms.specs.Number.{all_digits, value_from, signed_of, number_of}
@@ -13,7 +13,6 @@ use Rattle.forms.proofs.Examples.{bytes}
 use Rattle.outcomes.specs.Sheet.{outcome_of, sheet_of}
 use Rattle.seasons.specs.declared.Outcome.{Outcome}
 use Rattle.seasons.specs.declared.Tally.{Tally}
-use Rattle.seasons.specs.declared.Counted.{Counted}
 use Rattle.seasons.specs.declared.Season.{Season}
 use Rattle.seasons.specs.Season.{outcomes_of, filter, sum, maximum, tally_of, tallies_of, misshapen, no_tally, season_of, season_row_of}
 use Rattle.seasons.specs.Sheets.{method_number, method_written, sheet_outcome}
@@ -26,10 +25,10 @@ tally a b c d e f = record { stopped = a; unfinished = b; refused = c; answers =
 
 -- of so many outcomes, and the tallies of methods 0, 1, 2 and of any other
 abbrev counted : ℕ → Tally → Tally → Tally → Tally → Season
-counted n a b c d = record { counted = Counted.Outcomes n; tallies = a ∷ b ∷ c ∷ d ∷ [] }
+counted n a b c d = record { counted = Ok n; tallies = a ∷ b ∷ c ∷ d ∷ [] }
 
 abbrev refuses19 : Season
-refuses19 = record { counted = Counted.Refused 19 0; tallies = no_tally ∷ no_tally ∷ no_tally ∷ no_tally ∷ [] }
+refuses19 = record { counted = Err (refusal 19 0); tallies = no_tally ∷ no_tally ∷ no_tally ∷ no_tally ∷ [] }
 
 record Example : Type 0 where
   run : List ℕ

@@ -1,7 +1,7 @@
 -- Laws of runs: the numbers of a run and its outcomes, the run read so far, and what is kept while it is read.
 -- Assumes nothing.
 use Prim.Native.Nat.{ℕ, zero, suc, ◌+◌, ◌*◌, ◌/◌, ◌%◌, ◌≤◌, ◌<◌, max}
-use Rattle.std.specs.Prelude.{◌≡◌, refl, Bool, true, false, not, ◌||◌, List, [], ◌∷◌, ◌++◌, ltb, eqb, length, get_or, take, set, replicate}
+use Rattle.std.specs.Prelude.{◌≡◌, refl, Bool, true, false, not, ◌||◌, List, [], ◌∷◌, ◌++◌, ltb, eqb, length, get_or, take, set, replicate, Ok}
 use Rattle.std.proofs.Common.{sym, ◌∙◌, add-one}
 use Rattle.std.proofs.Math.Path.{ap}
 use Rattle.std.proofs.Math.Nat.{add-zero, max-le, max-zero}
@@ -10,7 +10,6 @@ use borrow.Author.Tests.{eqb-true, ltb-false, le-ltb, ne_eqb, eq-eqb}
 use Rattle.integers.proofs.SignsLaws.{never}
 use Rattle.seasons.specs.declared.Outcome.{Outcome}
 use Rattle.seasons.specs.declared.Tally.{Tally}
-use Rattle.seasons.specs.declared.Counted.{Counted}
 use Rattle.seasons.specs.Season.{outcomes_of, booked_as, filter, sum, maximum, tally_of, tallies_of}
 use Rattle.seasons.specs.Season.{most_outcomes, misshapen, no_tally, refused_season, season_on, season_of}
 use Rattle.seasons.specs.Claims.{written, added}
@@ -286,5 +285,5 @@ unfolding season_of
 season_counted ns e = simp e
 
 pub season_is : (ns : List ℕ) → misshapen (length ns) ≡ false → (ts : List Tally) → ts ≡ tallies_of (outcomes_of ns)
-    → record { counted = Counted.Outcomes (length ns / 4); tallies = ts } ≡ season_of ns
+    → record { counted = Ok (length ns / 4); tallies = ts } ≡ season_of ns
 season_is ns e ts f = sym (season_counted ns e ∙ rw (outcomes_length ns, f))

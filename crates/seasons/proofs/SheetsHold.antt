@@ -1,6 +1,6 @@
 -- The claim on every sheet holds: its method is the one of the opening that it is read as, and the bound on the answers is the search's.
 -- Assumes nothing.
-use Rattle.std.specs.Prelude.{ℕ, ◌≤◌, ◌≡◌, refl, Bool, true, false, cond, List, [], ◌∷◌, map, eqb, ltb, ℤ, pos, nat_abs, length}
+use Rattle.std.specs.Prelude.{ℕ, ◌≤◌, ◌≡◌, refl, Bool, true, false, cond, List, [], ◌∷◌, map, eqb, ltb, ℤ, pos, nat_abs, length, Ok, Err}
 use Rattle.std.proofs.Common.{sym, ap, ◌∙◌, arith, eqb-true, eq-eqb}
 use Rattle.std.proofs.Math.Nat.{max-le}
 use Rattle.integers.proofs.SignsLaws.{never}
@@ -8,9 +8,8 @@ use Rattle.rules.specs.declared.Opening.{Opening}
 use Rattle.rules.specs.declared.Bracket.{Bracket}
 use Rattle.rules.specs.declared.Progress.{Progress}
 use Rattle.rules.specs.declared.Report.{Report}
-use Rattle.rules.specs.declared.Quote.{Quote}
 use Rattle.rules.specs.Rules.{slots, lower_of, upper_of, stopped_of, next_of}
-use Rattle.rules.specs.Refusals.{outside, opening_refusal, Accepted}
+use Rattle.rules.specs.Refusals.{refusal, outside, opening_refusal, Accepted}
 use Rattle.rules.proofs.RefusalsLaws.{ranged, opened}
 use Rattle.rules.specs.Search.{answers_of, other_at, offer_of, bracket_report, report_at, is_refusal, t_of, most_of, quote_of}
 use Rattle.rules.proofs.SearchLaws.{Sound, SoundAt, sound_offer, most_slots}
@@ -175,7 +174,7 @@ written_is text taken =
 
 -- ---- its quote
 
-quote_is : (o : Opening) → Accepted o → quote_of o ≡ Quote.Quoted (t_of o) (most_of o)
+quote_is : (o : Opening) → Accepted o → quote_of o ≡ Ok (record { t = t_of o; most = most_of o })
 unfolding quote_of
 quote_is o a = simp (eq-eqb (opening_refusal o) 0 a.accepted)
 
@@ -184,7 +183,7 @@ pub quoted_few : (o : Opening) → most_quoted (quote_of o) ≤ slots
 unfolding quote_of
 quoted_few o = go (eqb (opening_refusal o) 0) refl
   where
-    go : (b : Bool) → eqb (opening_refusal o) 0 ≡ b → most_quoted (cond b (Quote.Quoted (t_of o) (most_of o)) (Quote.Refused (opening_refusal o) 0)) ≤ slots
+    go : (b : Bool) → eqb (opening_refusal o) 0 ≡ b → most_quoted (cond b (Ok (record { t = t_of o; most = most_of o })) (Err (refusal (opening_refusal o) 0))) ≤ slots
     go true e = most_slots o (opened o (record { accepted = eqb-true _ _ e }))
     go false e = omega arith
 
@@ -288,7 +287,7 @@ sheet_claim text =
       method = λ taken. ap pos (by_method m o r) ∙ written_is text taken;
       quoted = λ taken.
           let q = quote_is o (sheet_taken text taken).accepted in
-          q ∙ ap (Quote.Quoted (t_of o)) (sym (by_quoted m o r taken ∙ ap most_quoted q));
+          q ∙ ap (λ (n : ℕ). Ok (record { t = t_of o; most = n })) (sym (by_quoted m o r taken ∙ ap most_quoted q));
       cleaned = cleaned_same text;
     }
 

@@ -1,16 +1,14 @@
 -- The claims on season reports, request 2026-10: on every list of outcomes, and on the outcome of every sheet. Nothing is proved here: ClaimsHold
 -- and SheetsHold have the proofs. The contract of `season::season` cites the first, that of `sheet_outcomes::sheet_outcome` the second.
 -- Assumes nothing.
-use Rattle.std.specs.Prelude.{ℕ, ◌+◌, ◌*◌, ◌/◌, ◌%◌, ◌≤◌, max, ◌≡◌, true, false, pos, length, get_or, set}
+use Rattle.std.specs.Prelude.{ℕ, ◌+◌, ◌*◌, ◌/◌, ◌%◌, ◌≤◌, max, ◌≡◌, true, false, pos, length, get_or, set, Ok}
 use mathlib.Core.List.{List, [], ◌∷◌, ◌++◌, map, zip_with}
 use Rattle.rules.specs.Rules.{slots}
-use Rattle.rules.specs.declared.Quote.{Quote}
 use Rattle.rules.specs.Search.{is_refusal, t_of, quote_of}
 use Rattle.outcomes.specs.Sheet.{sheet_of}
 use Rattle.clean_sheets.specs.Clean.{rewritten_of}
 use Rattle.seasons.specs.declared.Outcome.{Outcome}
 use Rattle.seasons.specs.declared.Tally.{Tally}
-use Rattle.seasons.specs.declared.Counted.{Counted}
 use Rattle.seasons.specs.Season.{outcomes_of, was_refused, other, booked_as, sum, tally_of, booked_under, tallies_of}
 use Rattle.seasons.specs.Season.{most_outcomes, misshapen, no_tally, season_of}
 use Rattle.seasons.specs.Sheets.{sheet_outcome}
@@ -69,7 +67,7 @@ pub record EverySeason : Type 0 where
   pub adds_up : (ns ms : List ℕ) → misshapen (length ns) ≡ false → misshapen (length ms) ≡ false → Together ns ms
       → season_of (ns ++ ms)
       ≡ record {
-        counted = Counted.Outcomes (length ns / 4 + length ms / 4);
+        counted = Ok (length ns / 4 + length ms / 4);
         tallies = zip_with added (season_of ns).tallies (season_of ms).tallies;
       }
   -- every outcome is booked, and once
@@ -87,7 +85,7 @@ pub record SheetClaim (text : List ℕ) : Type 0 where
   -- of a sheet that is accepted the method is its opening's, and what is quoted is what was quoted for the opening
   pub method : is_refusal (sheet_of text).report ≡ false → pos (sheet_outcome text).method ≡ (sheet_of text).search.opening.method
   pub quoted : is_refusal (sheet_of text).report ≡ false
-      → quote_of (sheet_of text).search.opening ≡ Quote.Quoted (t_of (sheet_of text).search.opening) (sheet_outcome text).quoted
+      → quote_of (sheet_of text).search.opening ≡ Ok (record { t = t_of (sheet_of text).search.opening; most = (sheet_outcome text).quoted })
   -- its clean sheet has the same outcome
   pub cleaned : is_refusal (sheet_of text).report ≡ false → sheet_outcome (rewritten_of text) ≡ sheet_outcome text
 

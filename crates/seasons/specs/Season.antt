@@ -1,10 +1,11 @@
 -- The season report, request 2026-10: for each method plain counts, sums and maxima over the outcomes of a run.
 -- Assumes nothing.
-use Rattle.std.specs.Prelude.{ℕ, ◌+◌, ◌*◌, ◌%◌, min, max, Bool, cond, not, ◌||◌, List, [], ◌∷◌, map, ltb, eqb, length, replicate}
+use Rattle.std.specs.Prelude.{ℕ, ◌+◌, ◌*◌, ◌%◌, min, max, Bool, cond, not, ◌||◌, List, [], ◌∷◌, map, ltb, eqb, length, replicate, Result, Ok, Err}
+use Rattle.rules.specs.declared.Refusal.{Refusal}
+use Rattle.rules.specs.Refusals.{refusal}
 use Rattle.rules.specs.Rows.{refused_kind, season_kind}
 use Rattle.seasons.specs.declared.Outcome.{Outcome}
 use Rattle.seasons.specs.declared.Tally.{Tally}
-use Rattle.seasons.specs.declared.Counted.{Counted}
 use Rattle.seasons.specs.declared.Season.{Season}
 use Rattle.seasons.specs.declared.SeasonRow.{SeasonRow}
 
@@ -101,19 +102,19 @@ abbrev pub no_tally : Tally
 no_tally = record { stopped = 0; unfinished = 0; refused = 0; answers = 0; quoted = 0; largest = 0 }
 
 abbrev pub refused_season : Season
-refused_season = record { counted = Counted.Refused misshapen_run whole_run; tallies = replicate 4 no_tally }
+refused_season = record { counted = Err (refusal misshapen_run whole_run); tallies = replicate 4 no_tally }
 
 abbrev pub season_on : List Outcome → Season
-season_on os = record { counted = Counted.Outcomes (length os); tallies = tallies_of os }
+season_on os = record { counted = Ok (length os); tallies = tallies_of os }
 
 unfoldable pub season_of : List ℕ → Season
 season_of ns = cond (misshapen (length ns)) refused_season (season_on (outcomes_of ns))
 
 -- ---- the report as plain numbers, for C
 
-abbrev pub season_row_by : Counted → List Tally → SeasonRow
-season_row_by (Counted.Outcomes count) ts = record { kind = season_kind; outcomes = count; number = 0; place = 0; tallies = ts }
-season_row_by (Counted.Refused number place) ts = record { kind = refused_kind; outcomes = 0; number = number; place = place; tallies = ts }
+abbrev pub season_row_by : Result ℕ Refusal → List Tally → SeasonRow
+season_row_by (Ok count) ts = record { kind = season_kind; outcomes = count; number = 0; place = 0; tallies = ts }
+season_row_by (Err r) ts = record { kind = refused_kind; outcomes = 0; number = r.number; place = r.place; tallies = ts }
 
 abbrev pub season_row_of : Season → SeasonRow
 season_row_of s = season_row_by s.counted s.tallies

@@ -1,10 +1,11 @@
 -- The outcome of a sheet as the four numbers of a run, request 2026-10: its kind, its method as written, the answers taken and the most answers
 -- quoted. Of a refused sheet the method is the one that its first record carries, and the other two are 0.
 -- Assumes nothing.
-use Rattle.std.specs.Prelude.{ℕ, cond, List, [], ◌∷◌, ltb, ℤ, nat_abs, length}
+use Rattle.std.specs.Prelude.{ℕ, cond, List, [], ◌∷◌, ltb, ℤ, nat_abs, length, Result, Ok, Err}
 use Rattle.rules.specs.declared.Opening.{Opening}
 use Rattle.rules.specs.declared.Report.{Report}
 use Rattle.rules.specs.declared.Quote.{Quote}
+use Rattle.rules.specs.declared.Refusal.{Refusal}
 use Rattle.rules.specs.Refusals.{outside}
 use Rattle.rules.specs.Search.{quote_of}
 use Rattle.forms.specs.declared.OpeningRecord.{OpeningRecord}
@@ -40,9 +41,9 @@ method_written text = cond (ltb longest_text (length text)) other (method_of_fir
 abbrev pub refused_outcome : ℕ
 refused_outcome = 2
 
-abbrev pub most_quoted : Quote → ℕ
-most_quoted (Quote.Quoted t most) = most
-most_quoted (Quote.Refused number place) = 0
+abbrev pub most_quoted : Result Quote Refusal → ℕ
+most_quoted (Ok q) = q.most
+most_quoted (Err r) = 0
 
 -- by the report on the sheet, whose opening is o
 abbrev pub outcome_by : ℕ → Opening → Report → Outcome

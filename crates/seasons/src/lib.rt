@@ -1,6 +1,8 @@
 // The season report as types: the outcomes of sheets, what is told of those of one method, and the report. There is no function here: see specs/.
 #![tactic(auto)]
 
+use rules::Refusal;
+
 // The most outcomes of a run, and the numbers of each.
 pub const MOST_OUTCOMES: usize = 10000;
 
@@ -41,17 +43,11 @@ pub struct Tally {
     pub largest: u32,
 }
 
-// How many outcomes a run has, or its refusal.
-#[derive(Clone, Copy)]
-pub enum Counted {
-    Outcomes { count: u32 },
-    Refused { number: u32, place: u32 },
-}
-
-// The report on a run: a tally for each of methods 0, 1 and 2 and one for any other. Beside a refusal every number in them is 0.
+// The report on a run: how many outcomes it has, or its refusal; and a tally for each of methods 0, 1 and 2 and one for any other. Beside a
+// refusal every number in them is 0.
 #[derive(Clone, Copy)]
 pub struct Season {
-    pub counted: Counted,
+    pub counted: Result<u32, Refusal>,
     pub tallies: [Tally; TALLIES],
 }
 

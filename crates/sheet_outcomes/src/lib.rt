@@ -9,7 +9,7 @@ ghost use Rattle.seasons.specs.Claims.{EverySheet};
 ghost use Rattle.sheet_outcomes.specs.HasOpening.{has_opening};
 
 use forms::Form;
-use rules::{Opening, Quote, Report};
+use rules::{Opening, Report};
 use seasons::Outcome;
 
 // 0, 1 and 2 as they are, and 3 for any other number.
@@ -51,11 +51,8 @@ fn most_quoted(opening: Opening) -> u16
     ensures { result ≡ most_quoted (quote_of opening) }
 {
     match search::quote(opening) {
-        Quote::Quoted { t: _, most } => most as u16,
-        Quote::Refused {
-            number: _,
-            place: _,
-        } => 0,
+        Ok(quote) => quote.most as u16,
+        Err(_) => 0,
     }
 }
 

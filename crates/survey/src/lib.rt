@@ -2,10 +2,13 @@
 #![tactic(auto)]
 
 ghost use Rattle.std.specs.Prelude.{◌≡◌, ◌++◌, ◌+◌, ◌≤◌, ◌<◌, pos, length, drop};
-ghost use Rattle.surveying.specs.Survey.{crosses_at, crossings_of, lower_points, is_misplaced, large_at, surveyed_of, list_of};
+ghost use Rattle.std.specs.List.{position};
+ghost use Rattle.rules.specs.Refusals.{too_large};
+ghost use Rattle.surveying.specs.Survey.{crosses_at, crossings_of, lower_points, is_misplaced, surveyed_of, list_of};
+ghost use Rattle.surveying.specs.Inner.{checked_of};
 ghost use Rattle.surveying.specs.Claims.{Surveyable, EverySurvey};
 
-use surveying::Surveyed;
+use rules::Refusal;
 
 // Whether n values make no survey: they are too few or too many, the pitch is below 1, or a point is out of range. The points rise, so the first and
 // the last are looked at; the last is worked out in 64 bits.
@@ -29,18 +32,30 @@ fn is_misplaced(lowest: i32, pitch: i32, n: usize) -> bool
     (rules::HIGHEST as u64) < first + (n as u64 - 1) * step
 }
 
-// The first index of a value out of range, or the number of values where there is none.
-fn first_large(values: &[i32]) -> usize
-    ensures { result ≡ large_at values.now }
+// The first index of a value out of range.
+fn first_large(values: &[i32]) -> Option<usize>
+    ensures { result ≡ position too_large values.now }
 {
-    let mut i: usize = 0;
-    while i < values.len() {
-        if refusals::too_large(values[i]) {
-            return i;
-        }
-        i += 1;
+    values.iter().position(|v| refusals::too_large(*v))
+}
+
+// Refuses a survey by its places, and then by the first value out of range.
+fn check(lowest: i32, pitch: i32, values: &[i32]) -> Result<(), Refusal>
+    ensures { result ≡ checked_of lowest pitch values.now }
+{
+    if is_misplaced(lowest, pitch, values.len()) {
+        return Err(Refusal {
+            number: rules::MISPLACED_SURVEY,
+            place: 0,
+        });
     }
-    i
+    match first_large(values) {
+        Some(i) => Err(Refusal {
+            number: rules::VALUE_OUT_OF_RANGE,
+            place: i as u32,
+        }),
+        None => Ok(()),
+    }
 }
 
 // Whether the value at an index and the next one have a zero or negative product.
@@ -56,15 +71,9 @@ fn count_pairs(values: &[i32]) -> usize
     requires { 1 ≤ length values.now }
     ensures { result ≡ length (crossings_of values.now) }
 {
-    let mut found: usize = 0;
-    let mut i: usize = 0;
-    while i + 1 < values.len() {
-        if crosses_at(values, i) {
-            found += 1;
-        }
-        i += 1;
-    }
-    found
+    (0..values.len() - 1)
+        .filter(|i| crosses_at(values, *i))
+        .count()
 }
 
 // Writes the lower points of these pairs to the beginning of a list that is long enough.
@@ -76,46 +85,31 @@ fn write_pairs(lowest: u32, pitch: u32, values: &[i32], list: &mut [u32])
 {
     let mut point = lowest;
     let mut n: usize = 0;
-    let mut at: usize = 0;
-    while at + 1 < values.len() {
+    for at in 0..values.len() - 1 {
         let upper = point + pitch;
         if crosses_at(values, at) {
             list[n] = point;
             n += 1;
         }
         point = upper;
-        at += 1;
     }
 }
 
 // The lower point of each neighbouring pair whose values have a zero or negative product, written to the list, lowest first, and how many there are.
 // The rest of the list keeps its contents, and so does the whole list where the survey is refused: the pairs are counted before any is written. The
 // claim on every survey holds.
-pub fn survey(lowest: i32, pitch: i32, values: &[i32], list: &mut [u32]) -> Surveyed
+pub fn survey(lowest: i32, pitch: i32, values: &[i32], list: &mut [u32]) -> Result<u32, Refusal>
     ensures value { result ≡ surveyed_of lowest pitch values.now (length list.old) }
     ensures list_after { list.new ≡ list_of lowest pitch values.now list.old }
     ensures every_survey { EverySurvey }
 {
-    if is_misplaced(lowest, pitch, values.len()) {
-        return Surveyed::Refused {
-            number: rules::MISPLACED_SURVEY,
-            place: 0,
-        };
-    }
-    let i = first_large(values);
-    if i < values.len() {
-        let place = i as u32;
-        return Surveyed::Refused {
-            number: rules::VALUE_OUT_OF_RANGE,
-            place,
-        };
-    }
+    check(lowest, pitch, values)?;
     let n = count_pairs(values);
     if list.len() < n {
-        return Surveyed::Refused {
+        return Err(Refusal {
             number: rules::LIST_TOO_SHORT,
             place: 0,
-        };
+        });
     }
     write_pairs(
         comparisons::magnitude(lowest),
@@ -123,6 +117,5 @@ pub fn survey(lowest: i32, pitch: i32, values: &[i32], list: &mut [u32]) -> Surv
         values,
         list,
     );
-    let pairs = n as u32;
-    Surveyed::Found { pairs }
+    Ok(n as u32)
 }

@@ -1,7 +1,7 @@
 -- The claim on every survey holds.
 -- Assumes nothing.
 use Rattle.std.specs.Prelude.{ℕ, zero, suc, ◌+◌, ◌-◌, ◌*◌, ◌≤◌, ◌<◌, ◌≡◌, refl, Bool, true, false}
-use Rattle.std.specs.Prelude.{List, [], ◌∷◌, ◌++◌, map, ltb, ℤ, negsuc, nat_abs, length, drop}
+use Rattle.std.specs.Prelude.{List, [], ◌∷◌, ◌++◌, map, ltb, ℤ, negsuc, nat_abs, length, drop, Ok, Err}
 use Rattle.std.proofs.Math.Path.{sym, ap}
 use Rattle.std.proofs.Common.{subst, ◌∙◌, arith, ltb-true, ltb-false, le-leb, ne_eqb, get_or-append-add, get_or-drop}
 use Rattle.std.proofs.Math.Decide.{dec_le}
@@ -13,13 +13,13 @@ use Rattle.integers.proofs.DigitsLaws.{first_before, first_is}
 use Rattle.integers.specs.Signs.{eq_z}
 use Rattle.integers.proofs.SignsLaws.{never, negated}
 use Rattle.rules.specs.declared.Opening.{Opening}
+use Rattle.rules.specs.declared.Refusal.{Refusal}
 use Rattle.rules.specs.Rules.{largest_tolerance, opposed}
 use Rattle.rules.proofs.RulesLaws.{opposed_comm}
-use Rattle.rules.specs.Refusals.{answer_refusal, too_large, same_side, Accepted, value_out_of_range}
+use Rattle.rules.specs.Refusals.{refusal, answer_refusal, too_large, same_side, Accepted, value_out_of_range}
 use Rattle.rules.proofs.RefusalsLaws.{inside, accepted_by, opposed_crossing}
 use Rattle.rules.specs.Search.{begin_of, offer_of, take_of, progress_of, is_refusal, report_of}
 use Rattle.rules.proofs.SearchLaws.{refusal_is}
-use Rattle.surveying.specs.declared.Surveyed.{Surveyed}
 use Rattle.surveying.specs.Survey.{point_at, measured_at, crosses_at, crossings_of, lower_points, misplaced_survey}
 use Rattle.surveying.specs.Survey.{is_misplaced, large_at, surveyed_of, list_of}
 use Rattle.surveying.specs.Claims.{Surveyable, Among, pair_opening, PairsFound, PairsCounted, EverySurvey}
@@ -30,7 +30,7 @@ use Rattle.surveying.proofs.SurveyLaws.{says_misplaced, says_large, says_short, 
 -- ---- the refusals in their order
 
 misplaced : (lowest pitch : ℤ) (vs : List ℤ) (room : ℕ) → ¬ Surveyable lowest pitch (length vs)
-    → surveyed_of lowest pitch vs room ≡ Surveyed.Refused misplaced_survey 0
+    → surveyed_of lowest pitch vs room ≡ Err (refusal misplaced_survey 0)
 misplaced lowest pitch vs room f = says_misplaced lowest pitch vs room (go (is_misplaced lowest pitch (length vs)) refl)
   where
     go : (b : Bool) → is_misplaced lowest pitch (length vs) ≡ b → b ≡ true
@@ -46,11 +46,11 @@ large_within vs i e = go (dec_le (length vs) i)
     go (no h) = omega arith
 
 large : (lowest pitch : ℤ) (vs : List ℤ) (room i : ℕ) → Surveyable lowest pitch (length vs) → Least (λ k. too_large (measured_at vs k) ≡ true) i
-    → surveyed_of lowest pitch vs room ≡ Surveyed.Refused value_out_of_range i
+    → surveyed_of lowest pitch vs room ≡ Err (refusal value_out_of_range i)
 unfolding large_at
 large lowest pitch vs room i s l =
     says_large lowest pitch vs room (not_misplaced lowest pitch (length vs) s) (subst (λ (k : ℕ). k < length vs) first within)
-    ∙ ap (Surveyed.Refused value_out_of_range) (sym first)
+    ∙ ap (λ (k : ℕ). Err (refusal value_out_of_range k)) (sym first)
   where
     within : i < length vs
     within = large_within vs i l.holds
@@ -81,9 +81,9 @@ counted lowest pitch vs s f =
     none : length vs ≡ large_at vs
     none = first_is (length vs) (λ k. too_large (measured_at vs k)) (length vs) (omega arith) (λ m h. f m) (λ h. absurd (omega arith))
 
-kept : (lowest pitch : ℤ) (vs : List ℤ) (list : List ℕ) (number i : ℕ) → surveyed_of lowest pitch vs (length list) ≡ Surveyed.Refused number i
+kept : (lowest pitch : ℤ) (vs : List ℤ) (list : List ℕ) (r : Refusal) → surveyed_of lowest pitch vs (length list) ≡ Err r
     → list_of lowest pitch vs list ≡ list
-kept lowest pitch vs list number i e = list_after lowest pitch vs list (Surveyed.Refused number i) e
+kept lowest pitch vs list r e = list_after lowest pitch vs list (Err r) e
 
 -- ---- the positions that are listed
 
@@ -304,10 +304,10 @@ module _ (lowest pitch : ℤ) (vs : List ℤ) (list : List ℕ) (s : Surveyable 
       }
 
 -- a refusal is no number of pairs
-no_refusal : {X : Type 0} (number i n : ℕ) → Surveyed.Refused number i ≡ Surveyed.Found n → X
+no_refusal : {X : Type 0} (number i n : ℕ) → Err (refusal number i) ≡ Ok n → X
 no_refusal number i n e = let f : ◌≡◌ {A = ℕ} 0 1 = cc in absurd (omega arith)
 
-found : (lowest pitch : ℤ) (vs : List ℤ) (list : List ℕ) (n : ℕ) → surveyed_of lowest pitch vs (length list) ≡ Surveyed.Found n
+found : (lowest pitch : ℤ) (vs : List ℤ) (list : List ℕ) (n : ℕ) → surveyed_of lowest pitch vs (length list) ≡ Ok n
     → PairsFound lowest pitch vs list (list_of lowest pitch vs list) n
 found lowest pitch vs list n e =
     go (is_misplaced lowest pitch (length vs)) (ltb (large_at vs) (length vs)) (ltb (length list) (length (crossings_of vs))) refl refl refl
@@ -322,7 +322,7 @@ found lowest pitch vs list n e =
         let v = ltb-false (large_at vs) (length vs) y in
         let h = ltb-false (length list) (length (crossings_of vs)) z in
         let t = says_found lowest pitch vs (length list) x v h in
-        let f : Surveyed.Found (length (crossings_of vs)) ≡ Surveyed.Found n = sym t ∙ e in
+        let f : Ok (length (crossings_of vs)) ≡ Ok n = sym t ∙ e in
         let g : length (crossings_of vs) ≡ n = cc in
         rw (list_after lowest pitch vs list _ t)
         (subst (PairsFound lowest pitch vs list _) g (pairs_found lowest pitch vs list (surveyable lowest pitch (length vs) x) v h))

@@ -1,27 +1,30 @@
 -- Laws of the definitions, for the claims and for the code: when a survey is misplaced, its points as numbers, one position more, the list written so far,
 -- and what is told, by the tests in their order.
 -- Assumes nothing.
-use Rattle.std.specs.Prelude.{ℕ, zero, suc, ◌+◌, ◌-◌, ◌*◌, ◌≤◌, ◌<◌, ◌≡◌, refl, Bool, true, false, ◌||◌, List}
-use Rattle.std.specs.Prelude.{[], ◌∷◌, ◌++◌, ltb, ℤ, pos, negsuc, nat_abs, ◌+ℤ◌, ◌*ℤ◌, length, get_or, drop, set}
-use Rattle.std.proofs.Common.{sym, ap, ap₂, subst, ◌∙◌, append-nil, le_refl, le_trans, zero-add, suc-add, suc-mul}
+use Rattle.std.specs.Prelude.{ℕ, zero, suc, ◌+◌, ◌-◌, ◌*◌, ◌≤◌, ◌<◌, ◌≡◌, refl, Bool, true, false, cond, not, ◌||◌, List}
+use Rattle.std.specs.Prelude.{[], ◌∷◌, ◌++◌, ltb, ℤ, pos, negsuc, nat_abs, ◌+ℤ◌, ◌*ℤ◌, length, get_or, drop, set, Result, Ok, Err, Some, None}
+use Rattle.std.proofs.Common.{sym, ap, ap₂, subst, ◌∙◌, append-nil, le_refl, le_trans, add-zero, zero-add, suc-add, suc-mul}
 use Rattle.std.proofs.Common.{zero-mul, mul-le-mul, add-one, arith, length-append, length-set, drop-cons}
 use Rattle.std.proofs.lemmas.List.{map-append, length-map, set_at}
 use borrow.Author.Tests.{lt-ltb, le-ltb, ltb-false}
 use Rattle.std.proofs.Math.IntN.{+ℤ_idr}
 use Rattle.std.proofs.Math.Seq.{append_snoc}
 use Rattle.std.specs.Int.Signed.{lt_z}
-use Rattle.integers.specs.Digits.{some_below}
+use Rattle.std.specs.List.{position, position_or_len, range_with_len, count_by}
+use Rattle.std.proofs.lemmas.List.Recursion.{is_count_by}
+use Rattle.integers.specs.Digits.{first_below, some_below}
 use Rattle.integers.proofs.DigitsLaws.{some_true, some_false, none_below}
 use Rattle.integers.specs.Lists.{filter}
 use Rattle.integers.proofs.ListsLaws.{filter_append}
 use Rattle.integers.proofs.SignsLaws.{never}
+use Rattle.rules.specs.declared.Refusal.{Refusal}
 use Rattle.rules.specs.Rules.{highest}
-use Rattle.rules.specs.Refusals.{outside, value_out_of_range}
+use Rattle.rules.specs.Refusals.{refusal, outside, too_large, value_out_of_range}
 use Rattle.rules.proofs.RefusalsLaws.{or_false, ranged, inside}
-use Rattle.surveying.specs.declared.Surveyed.{Surveyed}
 use Rattle.surveying.specs.Survey.{point_at, positions, crosses_at, crossings_of, lower_points, misplaced_survey, list_too_short}
 use Rattle.surveying.specs.Survey.{is_misplaced, large_at, surveyed_of, filled_by, list_of}
 use Rattle.surveying.specs.Claims.{Surveyable}
+use Rattle.surveying.specs.Inner.{checked_of}
 
 -- ---- when a survey is misplaced
 
@@ -153,6 +156,28 @@ crossings_onward vs i (suc k) = rw (suc-add k i) (le_trans (crossings_onward vs 
 crossings_within : (vs : List ℤ) (i n : ℕ) → i ≤ n → length (crossings_to vs i) ≤ length (crossings_to vs n)
 crossings_within vs i n h = subst (λ (k : ℕ). length (crossings_to vs i) ≤ length (crossings_to vs k)) (omega arith) (crossings_onward vs i (n - i))
 
+-- the positions as a range counts them
+
+range_more : (a n : ℕ) → range_with_len a (suc n) ≡ range_with_len a n ++ ((a + n) ∷ [])
+range_more a zero = rw add-zero
+range_more a (suc n) = ap (λ (l : List ℕ). a ∷ l) (range_more (a + 1) n) ∙ ap (λ (k : ℕ). a ∷ (range_with_len (a + 1) n ++ (k ∷ []))) (omega arith)
+
+positions_range : (n : ℕ) → positions n ≡ range_with_len 0 n
+unfolding positions
+positions_range zero = refl
+positions_range (suc n) = ap (λ (l : List ℕ). l ++ (n ∷ [])) (positions_range n) ∙ sym (rw (zero-add n) at (range_more 0 n))
+
+filter_counted : {A : Type 0} (test : A → Bool) (xs : List A) → length (filter test xs) ≡ count_by test xs
+unfolding filter
+filter_counted {A = A} test xs = is_count_by (λ (l : List A). length (filter test l)) test refl (λ x l. go (test x) x (filter test l)) xs
+  where
+    go : (b : Bool) (x : A) (l : List A) → length (cond b (x ∷ l) l) ≡ cond b (1 + length l) (length l)
+    go true x l = omega arith
+    go false x l = refl
+
+pub crossings_counted : (vs : List ℤ) → count_by (crosses_at vs) (range_with_len 0 (length vs - 1)) ≡ length (crossings_of vs)
+crossings_counted vs = sym (filter_counted (crosses_at vs) (positions (length vs - 1)) ∙ ap (count_by (crosses_at vs)) (positions_range (length vs - 1)))
+
 pub points_length : (lowest pitch : ℤ) (is : List ℕ) → length (lower_points lowest pitch is) ≡ length is
 points_length lowest pitch is = length-map is (λ i. nat_abs (point_at lowest pitch i))
 
@@ -207,29 +232,98 @@ module _ (a q : ℕ) (vs : List ℤ) (l₀ l : List ℕ) (i n p : ℕ) (w : Pair
       let e : length vs - 1 ≡ i = omega (arith, w.within) in
       rw (e, ← w.count) w.list
 
+-- ---- the first value out of range, as `position` finds it
+
+-- by the test of each position, which may be any
+first_is_found : (p : ℤ → Bool) (vs : List ℤ) → position_or_len p vs ≡ first_below (length vs) (λ i. p (get_or vs i (pos 0)))
+unfolding first_below
+first_is_found p [] = refl
+first_is_found p (v ∷ vs) = go (p v) (first_is_found p vs)
+  where
+    rest : ℕ
+    rest = first_below (length vs) (λ i. p (get_or vs i (pos 0)))
+
+    go : (b : Bool) → position_or_len p vs ≡ rest → cond (not b) (1 + position_or_len p vs) 0 ≡ cond b 0 (suc rest)
+    go true e = refl
+    go false e = omega (arith, e)
+
+large_found : (vs : List ℤ) → position too_large vs ≡ cond (ltb (large_at vs) (length vs)) (Some (large_at vs)) None
+unfolding large_at
+large_found vs = rw (first_is_found too_large vs)
+
 -- ---- what is told, by the tests in their order
 
 module _ (lowest pitch : ℤ) (vs : List ℤ) (room : ℕ) where
-  pub says_misplaced : is_misplaced lowest pitch (length vs) ≡ true → surveyed_of lowest pitch vs room ≡ Surveyed.Refused misplaced_survey 0
+  pub says_misplaced : is_misplaced lowest pitch (length vs) ≡ true → surveyed_of lowest pitch vs room ≡ Err (refusal misplaced_survey 0)
   unfolding surveyed_of
   says_misplaced e = simp e
 
   module _ (p : is_misplaced lowest pitch (length vs) ≡ false) where
-    pub says_large : large_at vs < length vs → surveyed_of lowest pitch vs room ≡ Surveyed.Refused value_out_of_range (large_at vs)
+    pub says_large : large_at vs < length vs → surveyed_of lowest pitch vs room ≡ Err (refusal value_out_of_range (large_at vs))
     unfolding surveyed_of
     says_large h = simp (p, lt-ltb (large_at vs) (length vs) h)
 
     module _ (v : length vs ≤ large_at vs) where
-      pub says_short : room < length (crossings_of vs) → surveyed_of lowest pitch vs room ≡ Surveyed.Refused list_too_short 0
+      pub says_short : room < length (crossings_of vs) → surveyed_of lowest pitch vs room ≡ Err (refusal list_too_short 0)
       unfolding surveyed_of
       says_short h = simp (p, le-ltb (large_at vs) (length vs) v, lt-ltb room (length (crossings_of vs)) h)
 
-      pub says_found : length (crossings_of vs) ≤ room → surveyed_of lowest pitch vs room ≡ Surveyed.Found (length (crossings_of vs))
+      pub says_found : length (crossings_of vs) ≤ room → surveyed_of lowest pitch vs room ≡ Ok (length (crossings_of vs))
       unfolding surveyed_of
       says_found h = simp (p, le-ltb (large_at vs) (length vs) v, le-ltb room (length (crossings_of vs)) h)
 
+-- ---- what is said before a pair is looked for
+
+module _ (lowest pitch : ℤ) (vs : List ℤ) where
+  pub check_misplaced : is_misplaced lowest pitch (length vs) ≡ true → Err (refusal misplaced_survey 0) ≡ checked_of lowest pitch vs
+  check_misplaced e = simp e
+
+  module _ (p : is_misplaced lowest pitch (length vs) ≡ false) where
+    pub check_large : (i : ℕ) → position too_large vs ≡ Some i → Err (refusal value_out_of_range i) ≡ checked_of lowest pitch vs
+    check_large i e = simp p (go (ltb (large_at vs) (length vs)) (sym (large_found vs) ∙ e))
+      where
+        go : (b : Bool) → cond b (Some (large_at vs)) None ≡ Some i
+            → Err (refusal value_out_of_range i) ≡ cond b (Err (refusal value_out_of_range (large_at vs))) (Ok (tt {0}))
+        go true f = cc
+        go false f = cc
+
+    pub check_passed : position too_large vs ≡ None → Ok tt ≡ checked_of lowest pitch vs
+    check_passed e = simp p (go (ltb (large_at vs) (length vs)) (sym (large_found vs) ∙ e))
+      where
+        go : (b : Bool) → cond b (Some (large_at vs)) None ≡ None → Ok (tt {0}) ≡ cond b (Err (refusal value_out_of_range (large_at vs))) (Ok (tt {0}))
+        go true f = cc
+        go false f = refl
+
+  -- a survey that is refused then is told so, whatever list is lent
+  pub refused_by : (r : Refusal) (room : ℕ) → checked_of lowest pitch vs ≡ Err r → surveyed_of lowest pitch vs room ≡ Err r
+  unfolding surveyed_of
+  refused_by r room e = go (is_misplaced lowest pitch (length vs)) (ltb (large_at vs) (length vs)) e
+    where
+      go : (a b : Bool) → cond a (Err (refusal misplaced_survey 0)) (cond b (Err (refusal value_out_of_range (large_at vs))) (Ok (tt {0}))) ≡ Err r
+          → cond a (Err (refusal misplaced_survey 0))
+          (cond b (Err (refusal value_out_of_range (large_at vs)))
+          (cond (ltb room (length (crossings_of vs))) (Err (refusal list_too_short 0)) (Ok (length (crossings_of vs)))))
+          ≡ Err r
+      go true b f = cc
+      go false true f = cc
+      go false false f = cc
+
+  -- any other has its places and its values in range
+  pub record Passed : Type 0 where
+    pub placed : is_misplaced lowest pitch (length vs) ≡ false
+    pub in_range : length vs ≤ large_at vs
+
+  pub passed : checked_of lowest pitch vs ≡ Ok tt → Passed
+  passed e = go (is_misplaced lowest pitch (length vs)) (ltb (large_at vs) (length vs)) refl refl e
+    where
+      go : (a b : Bool) → is_misplaced lowest pitch (length vs) ≡ a → ltb (large_at vs) (length vs) ≡ b
+          → cond a (Err (refusal misplaced_survey 0)) (cond b (Err (refusal value_out_of_range (large_at vs))) (Ok (tt {0}))) ≡ Ok (tt {0}) → Passed
+      go true b x y f = cc
+      go false true x y f = cc
+      go false false x y f = record { placed = x; in_range = ltb-false (large_at vs) (length vs) y }
+
 -- the list after it
-pub list_after : (lowest pitch : ℤ) (vs : List ℤ) (list : List ℕ) (r : Surveyed) → surveyed_of lowest pitch vs (length list) ≡ r
+pub list_after : (lowest pitch : ℤ) (vs : List ℤ) (list : List ℕ) (r : Result ℕ Refusal) → surveyed_of lowest pitch vs (length list) ≡ r
     → list_of lowest pitch vs list ≡ filled_by r (lower_points lowest pitch (crossings_of vs)) list
 unfolding list_of
-list_after lowest pitch vs list r e = ap (λ (s : Surveyed). filled_by s (lower_points lowest pitch (crossings_of vs)) list) e
+list_after lowest pitch vs list r e = ap (λ (s : Result ℕ Refusal). filled_by s (lower_points lowest pitch (crossings_of vs)) list) e

@@ -1,13 +1,13 @@
 -- The claims on surveys, request 2026-12. Nothing is proved here: ClaimsHold has the proofs. The contract of `survey::survey` cites `EverySurvey`.
 -- Assumes nothing.
-use Rattle.std.specs.Prelude.{ℕ, ◌+◌, ◌≤◌, ◌<◌, ◌≡◌, true, false, List, [], ◌∷◌, ℤ, pos, ◌*ℤ◌, length, get_or}
+use Rattle.std.specs.Prelude.{ℕ, ◌+◌, ◌≤◌, ◌<◌, ◌≡◌, true, false, List, [], ◌∷◌, ℤ, pos, ◌*ℤ◌, length, get_or, Ok, Err}
 use Rattle.std.specs.Int.Signed.{le_z, lt_z}
 use Rattle.integers.specs.Digits.{Least}
 use Rattle.rules.specs.declared.Opening.{Opening}
+use Rattle.rules.specs.declared.Refusal.{Refusal}
 use Rattle.rules.specs.Rules.{highest, largest_tolerance}
-use Rattle.rules.specs.Refusals.{outside, too_large, value_out_of_range}
+use Rattle.rules.specs.Refusals.{refusal, outside, too_large, value_out_of_range}
 use Rattle.rules.specs.Search.{is_refusal, report_of}
-use Rattle.surveying.specs.declared.Surveyed.{Surveyed}
 use Rattle.surveying.specs.Survey.{point_at, measured_at, misplaced_survey, list_too_short, surveyed_of, list_of}
 
 -- ---- words of the claims
@@ -68,21 +68,21 @@ pub record PairsCounted (lowest pitch : ℤ) (values : List ℤ) : Type 0 where
   pub number : ℕ
   -- one fewer than there are values, at most
   pub few : number < length values
-  pub told : (room : ℕ) → number ≤ room → surveyed_of lowest pitch values room ≡ Surveyed.Found number
-  pub short : (room : ℕ) → room < number → surveyed_of lowest pitch values room ≡ Surveyed.Refused list_too_short 0
+  pub told : (room : ℕ) → number ≤ room → surveyed_of lowest pitch values room ≡ Ok number
+  pub short : (room : ℕ) → room < number → surveyed_of lowest pitch values room ≡ Err (refusal list_too_short 0)
 
 -- ---- of every survey
 
 pub record EverySurvey : Type 0 where
   -- first 21; then 7, of the first value out of range; and where neither applies, the pairs or 22
   pub misplaced : (lowest pitch : ℤ) (values : List ℤ) (room : ℕ) → ¬ Surveyable lowest pitch (length values)
-      → surveyed_of lowest pitch values room ≡ Surveyed.Refused misplaced_survey 0
+      → surveyed_of lowest pitch values room ≡ Err (refusal misplaced_survey 0)
   pub large : (lowest pitch : ℤ) (values : List ℤ) (room i : ℕ) → Surveyable lowest pitch (length values)
-      → Least (λ k. too_large (measured_at values k) ≡ true) i → surveyed_of lowest pitch values room ≡ Surveyed.Refused value_out_of_range i
+      → Least (λ k. too_large (measured_at values k) ≡ true) i → surveyed_of lowest pitch values room ≡ Err (refusal value_out_of_range i)
   pub counted : (lowest pitch : ℤ) (values : List ℤ) → Surveyable lowest pitch (length values)
       → ((i : ℕ) → too_large (measured_at values i) ≡ false) → PairsCounted lowest pitch values
   -- a refusal leaves the list whole
-  pub kept : (lowest pitch : ℤ) (values : List ℤ) (list : List ℕ) (number i : ℕ)
-      → surveyed_of lowest pitch values (length list) ≡ Surveyed.Refused number i → list_of lowest pitch values list ≡ list
-  pub found : (lowest pitch : ℤ) (values : List ℤ) (list : List ℕ) (n : ℕ) → surveyed_of lowest pitch values (length list) ≡ Surveyed.Found n
+  pub kept : (lowest pitch : ℤ) (values : List ℤ) (list : List ℕ) (r : Refusal)
+      → surveyed_of lowest pitch values (length list) ≡ Err r → list_of lowest pitch values list ≡ list
+  pub found : (lowest pitch : ℤ) (values : List ℤ) (list : List ℕ) (n : ℕ) → surveyed_of lowest pitch values (length list) ≡ Ok n
       → PairsFound lowest pitch values list (list_of lowest pitch values list) n

@@ -2,13 +2,14 @@
 -- product. All of it is by positions, which count the values from 0.
 -- Assumes nothing.
 use Rattle.std.specs.Prelude.{ℕ, zero, suc, ◌+◌, ◌-◌, Bool, cond, ◌||◌, List, [], ◌∷◌, ◌++◌, map, ltb, ℤ, pos, nat_abs, ◌+ℤ◌, ◌*ℤ◌, length, get_or, drop}
+use Rattle.std.specs.Prelude.{Result, Ok, Err}
 use Rattle.std.specs.Int.Signed.{lt_z}
 use Rattle.integers.specs.Digits.{first_below, some_below}
 use Rattle.integers.specs.Lists.{filter}
 use Rattle.rules.specs.Rules.{highest, opposed}
-use Rattle.rules.specs.Refusals.{outside, too_large, value_out_of_range}
+use Rattle.rules.specs.Refusals.{refusal, outside, too_large, value_out_of_range}
+use Rattle.rules.specs.declared.Refusal.{Refusal}
 use Rattle.rules.specs.Rows.{refused_kind, surveyed_kind}
-use Rattle.surveying.specs.declared.Surveyed.{Surveyed}
 use Rattle.surveying.specs.declared.SurveyedRow.{SurveyedRow}
 
 -- ---- the points and the values
@@ -61,23 +62,23 @@ large_at vs = first_below (length vs) (λ i. too_large (measured_at vs i))
 
 -- ---- the survey, with a list of `room` places lent
 
-unfoldable pub surveyed_of : (lowest pitch : ℤ) (values : List ℤ) (room : ℕ) → Surveyed
+unfoldable pub surveyed_of : (lowest pitch : ℤ) (values : List ℤ) (room : ℕ) → Result ℕ Refusal
 surveyed_of lowest pitch vs room =
-    cond (is_misplaced lowest pitch (length vs)) (Surveyed.Refused misplaced_survey 0)
-    (cond (ltb (large_at vs) (length vs)) (Surveyed.Refused value_out_of_range (large_at vs))
-    (cond (ltb room (length (crossings_of vs))) (Surveyed.Refused list_too_short 0)
-    (Surveyed.Found (length (crossings_of vs)))))
+    cond (is_misplaced lowest pitch (length vs)) (Err (refusal misplaced_survey 0))
+    (cond (ltb (large_at vs) (length vs)) (Err (refusal value_out_of_range (large_at vs)))
+    (cond (ltb room (length (crossings_of vs))) (Err (refusal list_too_short 0))
+    (Ok (length (crossings_of vs)))))
 
 -- the list afterwards: the lower points, and then the rest as it was. A refusal leaves the list whole
-abbrev pub filled_by : Surveyed → (points list : List ℕ) → List ℕ
-filled_by (Surveyed.Found n) points list = points ++ drop n list
-filled_by (Surveyed.Refused n i) points list = list
+abbrev pub filled_by : Result ℕ Refusal → (points list : List ℕ) → List ℕ
+filled_by (Ok n) points list = points ++ drop n list
+filled_by (Err r) points list = list
 
 unfoldable pub list_of : (lowest pitch : ℤ) (values : List ℤ) (list : List ℕ) → List ℕ
 list_of lowest pitch vs list = filled_by (surveyed_of lowest pitch vs (length list)) (lower_points lowest pitch (crossings_of vs)) list
 
 -- ---- what is told as plain numbers
 
-abbrev pub surveyed_row_of : Surveyed → SurveyedRow
-surveyed_row_of (Surveyed.Found n) = record { kind = surveyed_kind; pairs = n; number = 0; place = 0 }
-surveyed_row_of (Surveyed.Refused n i) = record { kind = refused_kind; pairs = 0; number = n; place = i }
+abbrev pub surveyed_row_of : Result ℕ Refusal → SurveyedRow
+surveyed_row_of (Ok n) = record { kind = surveyed_kind; pairs = n; number = 0; place = 0 }
+surveyed_row_of (Err r) = record { kind = refused_kind; pairs = 0; number = r.number; place = r.place }

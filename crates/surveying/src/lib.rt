@@ -6,14 +6,8 @@ pub const FEWEST: usize = 2;
 
 pub const MOST: usize = 600;
 
-// What is told of a survey: how many pairs were found, or a refusal.
-#[derive(Clone, Copy)]
-pub enum Surveyed {
-    Found { pairs: u32 },
-    Refused { number: u32, place: u32 },
-}
-
-// The same as plain numbers: `kind` says whether the pairs were found or the survey refused, and a number that its kind has not is 0.
+// What is told of a survey, how many pairs were found or a refusal, as plain numbers: `kind` says which of them, and a number that its kind has
+// not is 0.
 #[repr(C)]
 #[derive(Clone, Copy)]
 pub struct SurveyedRow {

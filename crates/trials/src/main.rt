@@ -9,7 +9,7 @@ ghost use Rattle.rules.specs.Rules.{slots};
 
 use forms::{Entries, Form};
 use held::Search;
-use rules::{Opening, Quote, Report};
+use rules::{Opening, Quote, Refusal, Report};
 use std::io::{Print, Read, Stdout};
 
 // The trials have no more bytes.
@@ -34,14 +34,14 @@ fn show_number(to: Stdout, n: u32, end: u8) {
     write(to, &[end]);
 }
 
-fn show_quote(to: Stdout, quote: Quote) {
+fn show_quote(to: Stdout, quote: Result<Quote, Refusal>) {
     match quote {
-        Quote::Quoted { t, most } => {
+        Ok(Quote { t, most }) => {
             write(to, b"quote ");
             show_number(to, t, b',');
             show_number(to, most, b'\n');
         }
-        Quote::Refused { number, place } => {
+        Err(Refusal { number, place }) => {
             write(to, b"no quote ");
             show_number(to, number, b',');
             show_number(to, place, b'\n');

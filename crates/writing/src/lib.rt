@@ -8,12 +8,11 @@ ghost use Rattle.printing.specs.Printed.{placed};
 ghost use Rattle.clean_sheets.specs.Clean.{with_points, sheet_text, fitted_in, written_of, buffer_of};
 ghost use Rattle.clean_sheets.specs.Claims.{CleanSheet};
 
-use clean_sheets::Written;
 use held::Search;
-use rules::{Opening, Report};
+use rules::{Opening, Refusal, Report};
 
 // The clean sheet of an accepted search's parts, where the buffer is long enough.
-fn write_accepted(o: Opening, count: u32, slots: &[i32], out: &mut [u8]) -> Written
+fn write_accepted(o: Opening, count: u32, slots: &[i32], out: &mut [u8]) -> Result<u32, Refusal>
     requires { (count ≤ length slots.now) × (is_refused (progress_of o (take count slots.now)) ≡ false) }
     ensures value { result ≡ fitted_in out.old (sheet_text o (with_points o (begin_of o) (take count slots.now))) }
     ensures out_after { out.new ≡ placed (sheet_text o (with_points o (begin_of o) (take count slots.now))) out.old }
@@ -22,28 +21,26 @@ fn write_accepted(o: Opening, count: u32, slots: &[i32], out: &mut [u8]) -> Writ
     let n = count as usize;
     let length = composing::compose(o, &slots[..n], &mut sheet);
     if out.len() < length {
-        return Written::Refused {
+        return Err(Refusal {
             number: rules::BUFFER_TOO_SHORT,
             place: 0,
-        };
+        });
     }
     let written = printing::place_text(&sheet[..length], out);
-    Written::Sheet {
-        length: written as u32,
-    }
+    Ok(written as u32)
 }
 
 // Writes the clean sheet of a search at the beginning of `out`, whose further bytes keep their contents, and tells its length. The
 // search's own refusal comes first, then 13 where `out` is shorter than the sheet; nothing is written then. A buffer of
 // clean_sheets::LONGEST_SHEET bytes is long enough for every search. Of every search that is not refused the claim on clean sheets holds.
-pub fn write_sheet(search: Search, out: &mut [u8]) -> Written
+pub fn write_sheet(search: Search, out: &mut [u8]) -> Result<u32, Refusal>
     ensures value { result ≡ written_of search out.old }
     ensures out_after { out.new ≡ buffer_of search out.old }
     ensures clean_sheet { is_refusal (held_report search) ≡ false → CleanSheet search }
 {
     let report = search.report();
     if let Report::Refused { number, place } = report {
-        return Written::Refused { number, place };
+        return Err(Refusal { number, place });
     }
     write_accepted(search.opening, search.count, &search.slots, out)
 }

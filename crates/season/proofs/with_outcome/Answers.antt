@@ -4,11 +4,14 @@ use Rattle.std.proofs.Common.{◌≡◌, arith}
 use Rattle.seasons.proofs.RunLaws.{enter_refused, enter_stopped, enter_unfinished}
 use Rattle.season.proofs.with_outcome.Goals as goal
 
-pub returns-then-kind-gt-UNFINISHED : goal.returns-then-kind-gt-UNFINISHED
-returns-then-kind-gt-UNFINISHED c = enter_refused c.args.tally c.args.o c.if-kind-gt-UNFINISHED.true
+pub returns-then-o-gt-UNFINISHED : goal.returns-then-o-gt-UNFINISHED
+returns-then-o-gt-UNFINISHED c = enter_refused c.args.tally c.args.o c.if-o-gt-UNFINISHED.true
 
-pub returns-then-kind-eq-STOPPED : goal.returns-then-kind-eq-STOPPED
-returns-then-kind-eq-STOPPED c = rw c.larger.ensures (enter_stopped c.args.tally c.args.o c.if-kind-eq-STOPPED.true)
+pub returns-then-o-eq-STOPPED : goal.returns-then-o-eq-STOPPED
+returns-then-o-eq-STOPPED c =
+    rw (c.max.ensures, c.from.ensures, c.from-2.ensures, c.from-3.ensures) (enter_stopped c.args.tally c.args.o c.if-o-eq-STOPPED.true)
 
 pub returns : goal.returns
-returns c = let one : c.args.o.kind ≡ 1 = omega arith in rw c.larger.ensures (enter_unfinished c.args.tally c.args.o one)
+returns c =
+    let one : c.args.o.kind ≡ 1 = omega arith in
+    rw (c.max.ensures, c.from.ensures, c.from-2.ensures, c.from-3.ensures) (enter_unfinished c.args.tally c.args.o one)

@@ -1,10 +1,9 @@
 -- `writing::write_accepted` meets its contract: the sheet is made in a buffer of its own, which is long enough for every accepted
 -- search, and copied where the lent one is long enough.
 -- Assumes nothing.
-use Rattle.std.proofs.Common.{ℕ, ◌≡◌, ◌≤◌, ap, ◌∙◌, List, arith, length, take}
+use Rattle.std.proofs.Common.{ℕ, ◌≡◌, ◌≤◌, ap, ◌∙◌, List, arith, length, take, Ok}
 use borrow.Author.Tests.{lt-ltb, le-ltb, lt-leb, le-leb}
 use Rattle.printing.specs.Printed.{placed, placed_length}
-use Rattle.clean_sheets.specs.declared.Written.{Written}
 use Rattle.clean_sheets.proofs.ClaimsHold.{is_short}
 use Rattle.sheet_text.specs.PiecesLaws.{same_size, front_length, front_text}
 use Rattle.writing.proofs.write_accepted.Goals as goal
@@ -47,4 +46,4 @@ returns c =
     let fits = rw (front_length m) at c.if-out-length.false in
     let p = c.place_text-written.ensures in
     let whole = copied _ _ _ (front_text m) p.value fits in
-    record { value = simp (le-ltb _ _ fits) (ap Written.Sheet whole); out_after = rw (front_text m) at p.out_after }
+    record { value = simp (le-ltb _ _ fits) (ap Ok whole); out_after = rw (front_text m) at p.out_after }
