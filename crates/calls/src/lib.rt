@@ -9,7 +9,8 @@ ghost use Rattle.held.specs.Held.{enter_of};
 use held::{Entered, Search};
 use rules::Row;
 
-// An answer entered: for kind 0 by value, for any other into a search that is lent.
+// An answer entered: for kind 0 by value, for any other into a search that is lent. A kind is a number, no enum: runs are lists of numbers,
+// and every number is some kind.
 pub fn call(kind: u8, search: Search, point: i32, value: i32) -> Entered
     ensures { result ≡ enter_of search point value }
 {
@@ -25,12 +26,8 @@ pub fn put_row(rows: &mut [u32], at: usize, row: Row)
     requires { at + length (row_numbers row) ≤ length rows.old }
     ensures { rows.new ≡ sets rows.old at (row_numbers row) }
 {
-    rows[at] = row.kind;
-    rows[at + 1] = row.point;
-    rows[at + 2] = row.lower;
-    rows[at + 3] = row.upper;
-    rows[at + 4] = row.better;
-    rows[at + 5] = row.taken;
-    rows[at + 6] = row.number;
-    rows[at + 7] = row.place;
+    let numbers = [
+        row.kind, row.point, row.lower, row.upper, row.better, row.taken, row.number, row.place,
+    ];
+    rows[at..at + numbers.len()].copy_from_slice(&numbers);
 }

@@ -14,18 +14,10 @@ use rules::{Opening, Report};
 fn called_by(report: Report) -> u32
     ensures { result ≡ called_by report }
 {
-    match report {
-        Report::Next { point, taken: _ } => point,
-        Report::Stop {
-            lower: _,
-            upper: _,
-            better: _,
-            taken: _,
-        } => 0,
-        Report::Refused {
-            number: _,
-            place: _,
-        } => 0,
+    if let Report::Next { point, .. } = report {
+        point
+    } else {
+        0
     }
 }
 
@@ -37,11 +29,9 @@ fn answers_into(o: Opening, values: &[i32], out: &mut [u8], at: usize) -> usize
     ensures { Puts out.old at (answers_text (with_points o (begin_of o) values.now)) out.new result }
 {
     let mut end = at;
-    let mut i: usize = 0;
-    while i < values.len() {
+    for (i, value) in values.iter().enumerate() {
         let report = search::report_on(o, &values[..i]);
-        end = sheet_text::put_answer(out, end, called_by(report), values[i]);
-        i += 1;
+        end = sheet_text::put_answer(out, end, called_by(report), *value);
     }
     end
 }

@@ -2,32 +2,20 @@
 #![tactic(auto)]
 
 ghost use Rattle.std.specs.Prelude.{◌≡◌, ◌<◌};
-ghost use Rattle.dispatching.specs.Dispatching.{dryers, fresh_dispatcher, is_dryer, with_search, raised, served_at, refused_with, settled_by};
+ghost use Rattle.dispatching.specs.Dispatching.{dryers, fresh_dispatcher, with_search, raised, served_at, refused_with, settled_by};
 ghost use Rattle.dispatching.specs.Dispatching.{turn_of, opening_at, answer_at, dryer_report};
 
-use dispatching::{Dispatched, Dispatcher, Turn};
+use dispatching::{Dispatched, Dispatcher};
 use held::{Entered, Search};
 use rules::{Answer, Opening, Report};
 
 // The dispatcher with another search at a dryer.
-fn with_search(d: Dispatcher, dryer: u32, search: Search) -> Dispatcher
+fn with_search(mut d: Dispatcher, dryer: u32, search: Search) -> Dispatcher
     requires { dryer < dryers }
     ensures { result ≡ with_search d dryer search }
 {
-    let at = dryer as usize;
-    let mut next = d;
-    next.searches[at] = search;
-    next
-}
-
-// Whether the turn is a dryer's.
-fn is_dryer(turn: Turn, dryer: u32) -> bool
-    ensures { result ≡ is_dryer turn dryer }
-{
-    match turn {
-        Turn::Dryer { number } => number == dryer,
-        Turn::Nobody => false,
-    }
+    d.searches[dryer as usize] = search;
+    d
 }
 
 // A count with one more served.
@@ -93,23 +81,22 @@ pub fn fresh() -> Dispatcher
 }
 
 // The dryer that has the turn, or nobody.
-pub fn turn(d: Dispatcher) -> Turn
+pub fn turn(d: Dispatcher) -> Option<u32>
     ensures { result ≡ turn_of d }
 {
-    turns::turn(d)
+    turns::turn(&d)
 }
 
 // The report of a dryer's search.
 pub fn report(d: Dispatcher, dryer: u32) -> Report
     ensures { result ≡ dryer_report d dryer }
 {
-    if dispatching::DRYERS <= dryer {
+    let Some(search) = turns::search_at(d, dryer) else {
         return Report::Refused {
             number: rules::NO_SUCH_DRYER,
             place: 0,
         };
-    }
-    let search = turns::search_at(d, dryer);
+    };
     search.report()
 }
 
@@ -117,31 +104,26 @@ pub fn report(d: Dispatcher, dryer: u32) -> Report
 pub fn open(d: Dispatcher, dryer: u32, opening: Opening) -> Dispatched
     ensures { result ≡ opening_at d dryer opening }
 {
-    if dispatching::DRYERS <= dryer {
+    let Some(search) = turns::search_at(d, dryer) else {
         return refused(d, rules::NO_SUCH_DRYER);
-    }
-    let search = turns::search_at(d, dryer);
-    if turns::goes_on(search) {
+    };
+    if turns::goes_on(&search) {
         return refused(d, rules::STILL_SEARCHING);
     }
     let e = search.reopen(opening);
-    let fresh = e.search;
-    settled(d, e, with_search(d, dryer, fresh))
+    settled(d, e, with_search(d, dryer, e.search))
 }
 
 // An answer for a dryer: the turn is served, or the answer refused.
 pub fn enter(d: Dispatcher, dryer: u32, answer: Answer) -> Dispatched
     ensures { result ≡ answer_at d dryer answer }
 {
-    if dispatching::DRYERS <= dryer {
+    let Some(search) = turns::search_at(d, dryer) else {
         return refused(d, rules::NO_SUCH_DRYER);
+    };
+    if turns::turn(&d) != Some(dryer) {
+        return refused(d, rules::NOT_ITS_TURN);
     }
-    let holder = turns::turn(d);
-    if is_dryer(holder, dryer) {
-        let search = turns::search_at(d, dryer);
-        let e = search.enter(answer.point, answer.value);
-        let more = e.search;
-        return settled(d, e, served(d, dryer, more));
-    }
-    refused(d, rules::NOT_ITS_TURN)
+    let e = search.enter(answer.point, answer.value);
+    settled(d, e, served(d, dryer, e.search))
 }

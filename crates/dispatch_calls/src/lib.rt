@@ -42,7 +42,7 @@ fn answer_at(numbers: &[i32], at: usize) -> Answer
     Answer { point, value }
 }
 
-// A call by its kind: 0 is an opening, any other an answer.
+// A call by its kind: 0 is an opening, any other an answer. A kind is a number, no enum: runs are lists of numbers, and every number is some kind.
 fn call(kind: u8, d: Dispatcher, dryer: u32, o: Opening, a: Answer) -> Dispatched
     ensures { result ≡ call_of d (call_with kind dryer o a) }
 {
@@ -57,13 +57,13 @@ fn call(kind: u8, d: Dispatcher, dryer: u32, o: Opening, a: Answer) -> Dispatche
 pub fn number_of_calls(kinds: &[u8], dryers: &[u32], numbers: &[i32], rows: &[u32]) -> usize
     ensures { result ≡ how_many kinds.now dryers.now numbers.now rows.now }
 {
-    runs::lesser(
-        runs::lesser(rows.len() / NUMBERS_EACH, kinds.len()),
-        runs::lesser(dryers.len(), numbers.len() / CALL_NUMBERS),
-    )
+    let room = rows.len() / NUMBERS_EACH;
+    let written = numbers.len() / CALL_NUMBERS;
+    room.min(kinds.len()).min(dryers.len()).min(written)
 }
 
-// The call at a place of the lists, and its report in its place among the rows.
+// The call at a place of the lists, and its report in its place among the rows. It is beside runs::call_at, not one function over both with a
+// closure for the call: the lists differ, and what they share are the two lines that store the report.
 pub fn call_at(
     i: usize,
     d: Dispatcher,
@@ -78,7 +78,6 @@ pub fn call_at(
     let at = CALL_NUMBERS * i;
     let o = opening_at(numbers, at);
     let told = call(kinds[i], d, dryers[i], o, answer_at(numbers, at));
-    let report = told.report;
-    calls::put_row(rows, NUMBERS_EACH * i, rows::row_of(report));
+    calls::put_row(rows, NUMBERS_EACH * i, rows::row_of(told.report));
     told.dispatcher
 }

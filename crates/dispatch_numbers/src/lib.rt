@@ -7,7 +7,7 @@ ghost use Rattle.rules.specs.Rows.{row_of};
 ghost use Rattle.dispatching.specs.Dispatching.{turn_of, opening_at, answer_at, dryer_report};
 ghost use Rattle.dispatch_numbers.specs.Numbers.{turn_number, dispatched_row_of};
 
-use dispatching::{Dispatched, Dispatcher, Turn};
+use dispatching::{Dispatched, Dispatcher};
 use rules::{Answer, Opening, Row};
 
 // A report as plain numbers, and beside it the dispatcher as it then is.
@@ -21,23 +21,17 @@ pub struct DispatchedRow {
 fn numbered(told: Dispatched) -> DispatchedRow
     ensures { result ≡ dispatched_row_of told }
 {
-    let report = told.report;
-    let dispatcher = told.dispatcher;
     DispatchedRow {
-        report: rows::row_of(report),
-        dispatcher,
+        report: rows::row_of(told.report),
+        dispatcher: told.dispatcher,
     }
 }
 
-// The dryer that has the turn, or 6 where nobody has it.
+// The dryer that has the turn, or 6 where nobody has it: the interface for C has a number for both.
 pub fn step_turn(d: Dispatcher) -> u32
     ensures { result ≡ turn_number (turn_of d) }
 {
-    let turn = dispatch::turn(d);
-    match turn {
-        Turn::Dryer { number } => number,
-        Turn::Nobody => dispatching::DRYERS,
-    }
+    dispatch::turn(d).unwrap_or(dispatching::DRYERS)
 }
 
 // The report of a dryer's search.

@@ -24,10 +24,8 @@ pub fn make_calls(
 {
     let n = dispatch_calls::number_of_calls(kinds, dryers, numbers, rows);
     let mut next = d;
-    let mut i = 0;
-    while i < n {
+    for i in 0..n {
         next = dispatch_calls::call_at(i, next, kinds, dryers, numbers, rows);
-        i += 1;
     }
     next
 }

@@ -1,12 +1,14 @@
 -- The laws of the dispatcher: an element of the list of searches, each call by its cases, and how the turn is counted out.
 -- Assumes nothing.
 use Prim.Native.Nat.{ℕ, zero, suc, ◌+◌, ◌-◌, ◌%◌, ◌≤◌, ◌<◌}
-use Rattle.std.specs.Prelude.{◌≡◌, ◌≢◌, Bool, cond, not, List, [], ◌∷◌, map, ltb, length, get_or}
+use Rattle.std.specs.Prelude.{◌≡◌, ◌≢◌, Bool, cond, not, List, [], ◌∷◌, Option, Some, None, map, ltb, eqb, length, get_or}
+use Rattle.std.specs.Option.{option_eq}
 use Rattle.std.proofs.Math.Path.{refl, ap}
-use Rattle.std.proofs.Common.{sym, subst, ◌∙◌, ltb-true, eqb-true, lt-ltb, le-ltb, eq-eqb, get_or-set_other}
+use Rattle.std.proofs.Common.{sym, subst, ◌∙◌, ltb-true, ltb-false, eqb-true, lt-ltb, le-ltb, eq-eqb, get_or-set_other}
 use Rattle.std.proofs.Math.Bool.{true, false}
 use native.Mathlib.Omega.{arith}
 use Rattle.std.proofs.lemmas.List.{length-map}
+use Rattle.std.proofs.lemmas.Option.{cond_some}
 use Rattle.integers.proofs.SignsLaws.{never}
 use Rattle.rules.specs.declared.Opening.{Opening}
 use Rattle.rules.specs.declared.Answer.{Answer}
@@ -16,9 +18,8 @@ use Rattle.held.specs.declared.Search.{Search}
 use Rattle.held.specs.declared.Entered.{Entered}
 use Rattle.held.specs.Held.{blank, reopen_of, held_report, enter_of}
 use Rattle.dispatching.specs.declared.Dispatcher.{Dispatcher}
-use Rattle.dispatching.specs.declared.Turn.{Turn}
 use Rattle.dispatching.specs.declared.Dispatched.{Dispatched}
-use Rattle.dispatching.specs.Dispatching.{dryers, no_such_dryer, not_its_turn, still_searching, search_at, unfinished, start_after, first_from, turn_of}
+use Rattle.dispatching.specs.Dispatching.{dryers, no_such_dryer, not_its_turn, still_searching, search_at, found_at, unfinished, start_after, first_from, turn_of}
 use Rattle.dispatching.specs.Dispatching.{is_dryer, told, refused_with, with_search, served_at, settled_by, opening_at, answer_at, dryer_report}
 use Rattle.dispatching.specs.Calls.{Call, opening, answer, call_of, dryer_of, lone_of, Due}
 use Rattle.dispatching.specs.Run.{First}
@@ -35,15 +36,46 @@ inside (s ∷ l) (suc i) a b h = inside l i a b (omega arith)
 pub length_mapped : (X Y : Type 0) (f : X → Y) (l : List X) (n : ℕ) → length (map f l) ≡ n → length l ≡ n
 length_mapped X Y f l n e = sym (length-map l f) ∙ e
 
+-- what is found at a number
+module _ (d : Dispatcher) (i : ℕ) where
+  pub nowhere : None ≡ found_at d i → dryers ≤ i
+  nowhere = go (ltb i dryers) refl
+    where
+      go : (b : Bool) → ltb i dryers ≡ b → None ≡ cond b (Some (search_at d i)) None → dryers ≤ i
+      go true e f = cc
+      go false e f = ltb-false i dryers e
+
+  pub there : (s : Search) → Some s ≡ found_at d i → (i < dryers) × (s ≡ search_at d i)
+  there s f = let h = cond_some (ltb i dryers) (search_at d i) s (sym f) in (ltb-true i dryers h.0, sym h.1)
+
 -- ---- the calls, case by case
 
 not_not : (b : Bool) → not b ≡ false → b ≡ true
 not_not true e = refl
 not_not false e = never e
 
-pub turn_is : (t : Turn) (i : ℕ) → is_dryer t i ≡ true → t ≡ Turn.Dryer i
-turn_is (Turn.Dryer j) i e = ap Turn.Dryer (eqb-true j i e)
-turn_is Turn.Nobody i e = never (sym e)
+is_not : (b : Bool) → not b ≡ true → b ≡ false
+is_not true e = never (sym e)
+is_not false e = refl
+
+pub turn_is : (t : Option ℕ) (i : ℕ) → is_dryer t i ≡ true → t ≡ Some i
+turn_is (Some j) i e = ap Some (eqb-true j i e)
+turn_is None i e = never (sym e)
+
+-- as Rust compares them
+turn_equals : (t : Option ℕ) (i : ℕ) → option_eq eqb t (Some i) ≡ is_dryer t i
+turn_equals (Some j) i = refl
+turn_equals None i = refl
+
+module _ (d : Dispatcher) (i : ℕ) {t : Option ℕ} {b : Bool} (told : t ≡ turn_of d) (differs : b ≡ not (option_eq eqb t (Some i))) where
+  tells : not (is_dryer (turn_of d) i) ≡ b
+  tells = sym (differs ∙ ap not (ap (λ (u : Option ℕ). option_eq eqb u (Some i)) told ∙ turn_equals (turn_of d) i))
+
+  pub has_turn : b ≡ false → is_dryer (turn_of d) i ≡ true
+  has_turn e = not_not (is_dryer (turn_of d) i) (tells ∙ e)
+
+  pub has_no_turn : b ≡ true → is_dryer (turn_of d) i ≡ false
+  has_no_turn e = is_not (is_dryer (turn_of d) i) (tells ∙ e)
 
 module _ (d : Dispatcher) (e : Entered) (next : Dispatcher) where
   pub settled_refused : is_refusal e.report ≡ true → settled_by d e next ≡ told e.report d
@@ -147,7 +179,7 @@ pub due_report : (d : Dispatcher) (c : Call) → Due d c → (call_of d c).repor
 due_report d (opening i o) due =
     ap (λ (r : Dispatched). r.report) (opening_due d i o due.0 due.1) ∙ settled_report d (lone_at d (opening i o)) _
 due_report d (answer i a) due =
-    let turn : is_dryer (turn_of d) i ≡ true = ap (λ (t : Turn). is_dryer t i) due.1 ∙ eq-eqb i i refl in
+    let turn : is_dryer (turn_of d) i ≡ true = ap (λ (t : Option ℕ). is_dryer t i) due.1 ∙ eq-eqb i i refl in
     ap (λ (r : Dispatched). r.report) (answer_due d i a due.0 turn) ∙ settled_report d (lone_at d (answer i a)) _
 
 pub due_dryer : (d : Dispatcher) (c : Call) → Due d c → dryer_of c < dryers
@@ -163,35 +195,32 @@ start_bound last = go (ltb last dryers) refl
     go true e = simp e (omega (arith, ltb-true last dryers e))
     go false e = simp e (omega arith)
 
--- the turn goes to the first that goes on among those still to be asked
-pub record Asking (d : Dispatcher) (at left : ℕ) : Type 0 where
-  pub turn : turn_of d ≡ first_from d.searches at left
-  pub bound : at + left ≤ dryers + dryers
+-- i dryers have been asked, from `first` on: the turn goes to the first that goes on among the others
+pub record Asking (d : Dispatcher) (first i : ℕ) : Type 0 where
+  pub turn : turn_of d ≡ first_from d.searches (first + i) (dryers - i)
+  pub bound : first ≤ dryers
 
-pub ask_all : (d : Dispatcher) (at : ℕ) → at ≡ start_after d.last → Asking d at dryers
+pub ask_all : (d : Dispatcher) (first : ℕ) → first ≡ start_after d.last → Asking d first 0
 unfolding turn_of
-ask_all d at e = record { turn = rw e; bound = omega (arith, start_bound d.last) }
+ask_all d first e =
+    let z : first + 0 ≡ start_after d.last = omega arith in
+    record { turn = rw z; bound = omega (arith, start_bound d.last) }
 
-module _ (d : Dispatcher) where
-  pub ask_none : (at left : ℕ) → Asking d at left → left ≤ 0 → turn_of d ≡ Turn.Nobody
+module _ (d : Dispatcher) (first i : ℕ) (a : Asking d first i) where
+  pub ask_none : dryers ≤ i → turn_of d ≡ None
   unfolding first_from
-  ask_none at zero a h = a.turn
-  ask_none at (suc n) a h = absurd (omega arith)
+  ask_none h = let e : dryers - i ≡ 0 = omega arith in a.turn ∙ rw e
 
-  pub ask_here : (at left : ℕ) → Asking d at left → 0 < left → unfinished (search_at d (at % dryers)) ≡ true → turn_of d ≡ Turn.Dryer (at % dryers)
+  pub ask_here : i < dryers → unfinished (search_at d ((first + i) % dryers)) ≡ true → turn_of d ≡ Some ((first + i) % dryers)
   unfolding first_from
-  ask_here at zero a h w = absurd (omega arith)
-  ask_here at (suc n) a h w = a.turn ∙ simp w
+  ask_here h w = let e : dryers - i ≡ suc (dryers - (i + 1)) = omega arith in a.turn ∙ rw e (simp w)
 
-  pub ask_next : (at left : ℕ) → Asking d at left → 0 < left → unfinished (search_at d (at % dryers)) ≡ false → Asking d (at + 1) (left - 1)
+  pub ask_next : i < dryers → unfinished (search_at d ((first + i) % dryers)) ≡ false → Asking d first (i + 1)
   unfolding first_from
-  ask_next at zero a h w = absurd (omega arith)
-  ask_next at (suc n) a h w =
-      let e : n ≡ suc n - 1 = omega arith in
-      record {
-        turn = a.turn ∙ simp w (ap (first_from d.searches (at + 1)) e);
-        bound = omega (arith, a.bound);
-      }
+  ask_next h w =
+      let e : dryers - i ≡ suc (dryers - (i + 1)) = omega arith in
+      let next : first + (i + 1) ≡ (first + i) + 1 = omega arith in
+      record { turn = a.turn ∙ rw (e, next) (simp w); bound = a.bound }
 
 -- ---- the one that goes on, and how many are asked before it
 
@@ -199,7 +228,7 @@ module _ (d : Dispatcher) where
 pub record Found (ss : List Search) (at n k : ℕ) : Type 0 where
   pub place : ℕ
   pub early : place ≤ k
-  pub turn : first_from ss at n ≡ Turn.Dryer ((at + place) % dryers)
+  pub turn : first_from ss at n ≡ Some ((at + place) % dryers)
 
 module _ (ss : List Search) (at n : ℕ)
     (rest : (k : ℕ) → k < n → unfinished (get_or ss (((at + 1) + k) % dryers) blank) ≡ true → Found ss (at + 1) n k) where
@@ -208,7 +237,7 @@ module _ (ss : List Search) (at n : ℕ)
   unfolding first_from
   finds_by true e k h w =
       let z : at ≡ at + 0 = omega arith in
-      record { place = 0; early = omega arith; turn = simp e (ap (λ (m : ℕ). Turn.Dryer (m % dryers)) z) }
+      record { place = 0; early = omega arith; turn = simp e (ap (λ (m : ℕ). Some (m % dryers)) z) }
   finds_by false e zero h w =
       let z : at + 0 ≡ at = omega arith in
       never (sym (rw z at w) ∙ e)
@@ -219,7 +248,7 @@ module _ (ss : List Search) (at n : ℕ)
       record {
         place = suc f.place;
         early = omega (arith, f.early);
-        turn = simp e (f.turn ∙ ap (λ (m : ℕ). Turn.Dryer (m % dryers)) back);
+        turn = simp e (f.turn ∙ ap (λ (m : ℕ). Some (m % dryers)) back);
       }
 
 pub finds : (ss : List Search) (at n k : ℕ) → k < n → unfinished (get_or ss ((at + k) % dryers) blank) ≡ true → Found ss at n k
@@ -245,14 +274,14 @@ module _ (d : Dispatcher) (i k : ℕ) (w : Queued d i k) where
       finds d.searches (start_after d.last) dryers k w.near (subst (λ (j : ℕ). unfinished (search_at d j) ≡ true) (sym w.place) w.goes_on)
 
   -- with none before it, it has the turn
-  pub next_turn : k ≡ 0 → turn_of d ≡ Turn.Dryer i
+  pub next_turn : k ≡ 0 → turn_of d ≡ Some i
   unfolding turn_of
   next_turn z =
       let e : found.place ≡ k = omega (arith, found.early) in
-      found.turn ∙ ap (λ (j : ℕ). Turn.Dryer ((start_after d.last + j) % dryers)) e ∙ ap Turn.Dryer w.place
+      found.turn ∙ ap (λ (j : ℕ). Some ((start_after d.last + j) % dryers)) e ∙ ap Some w.place
 
   -- where another is served, fewer are before it
-  pub nearer : (j : ℕ) (s : Search) → j < dryers → turn_of d ≡ Turn.Dryer j → (j ≡ i → ⊥) → (k' : ℕ) × ((k' + 1 ≤ k) × Queued (served_at d j s) i k')
+  pub nearer : (j : ℕ) (s : Search) → j < dryers → turn_of d ≡ Some j → (j ≡ i → ⊥) → (k' : ℕ) × ((k' + 1 ≤ k) × Queued (served_at d j s) i k')
   unfolding turn_of
   nearer j s h t other =
       let p = found.place in
@@ -273,7 +302,7 @@ module _ (d : Dispatcher) (i k : ℕ) (w : Queued d i k) where
         ),
       )
     where
-      number : {a b : ℕ} → Turn.Dryer a ≡ Turn.Dryer b → a ≡ b
+      number : {a b : ℕ} → Some a ≡ Some b → a ≡ b
       number q = cc
 
       after_dryer : (j : ℕ) → j < dryers → start_after j ≡ j + 1
@@ -292,13 +321,13 @@ module _ (d : Dispatcher) (i k : ℕ) (w : Queued d i k) where
 
 -- ---- the turn, said without counting
 
-module _ (ss : List Search) (at n i : ℕ) (rest : first_from ss (at + 1) n ≡ Turn.Dryer i → First ss (at + 1) n i) where
+module _ (ss : List Search) (at n i : ℕ) (rest : first_from ss (at + 1) n ≡ Some i → First ss (at + 1) n i) where
   passed_on : (f : First ss (at + 1) n i) → unfinished (get_or ss (at % dryers) blank) ≡ false
       → (j : ℕ) → j < suc f.place → unfinished (get_or ss ((at + j) % dryers) blank) ≡ false
   passed_on f e zero h = let z : at + 0 ≡ at = omega arith in rw z e
   passed_on f e (suc j) h = let z : at + suc j ≡ (at + 1) + j = omega arith in rw z (f.passed j (omega arith))
 
-  first_by : (b : Bool) → unfinished (get_or ss (at % dryers) blank) ≡ b → cond b (Turn.Dryer (at % dryers)) (first_from ss (at + 1) n) ≡ Turn.Dryer i
+  first_by : (b : Bool) → unfinished (get_or ss (at % dryers) blank) ≡ b → cond b (Some (at % dryers)) (first_from ss (at + 1) n) ≡ Some i
       → First ss at (suc n) i
   first_by true e t =
       let q : at % dryers ≡ i = cc in
@@ -309,16 +338,16 @@ module _ (ss : List Search) (at n i : ℕ) (rest : first_from ss (at + 1) n ≡ 
       let back : at + suc f.place ≡ (at + 1) + f.place = omega arith in
       record { place = suc f.place; near = omega (arith, f.near); dryer = rw back f.dryer; goes_on = f.goes_on; passed = passed_on f e }
 
-first_of : (ss : List Search) (at n i : ℕ) → first_from ss at n ≡ Turn.Dryer i → First ss at n i
+first_of : (ss : List Search) (at n i : ℕ) → first_from ss at n ≡ Some i → First ss at n i
 unfolding first_from
 first_of ss at zero i t = let z : ◌≡◌ {A = ℕ} 0 1 = cc in absurd (omega arith)
 first_of ss at (suc n) i t = first_by ss at n i (first_of ss (at + 1) n i) (unfinished (get_or ss (at % dryers) blank)) refl t
 
-pub turn_first : (d : Dispatcher) (i : ℕ) → turn_of d ≡ Turn.Dryer i → First d.searches (start_after d.last) dryers i
+pub turn_first : (d : Dispatcher) (i : ℕ) → turn_of d ≡ Some i → First d.searches (start_after d.last) dryers i
 unfolding turn_of
 turn_first d i t = first_of d.searches (start_after d.last) dryers i t
 
-pub turn_none : (d : Dispatcher) → turn_of d ≡ Turn.Nobody → (i : ℕ) → i < dryers → unfinished (search_at d i) ≡ false
+pub turn_none : (d : Dispatcher) → turn_of d ≡ None → (i : ℕ) → i < dryers → unfinished (search_at d i) ≡ false
 unfolding turn_of
 turn_none d t i h = go (unfinished (search_at d i)) refl
   where

@@ -1,6 +1,6 @@
 -- Worked examples of the dispatcher, each by computation.
 -- Assumes nothing.
-use Rattle.std.specs.Prelude.{ℕ, ◌+◌, ◌≡◌, refl, List, [], ◌∷◌, ◌++◌, map, pos, negsuc, take, replicate}
+use Rattle.std.specs.Prelude.{ℕ, ◌+◌, ◌≡◌, refl, List, [], ◌∷◌, ◌++◌, Option, Some, None, map, pos, negsuc, take, replicate}
 use Rattle.rules.specs.declared.Opening.{Opening}
 use Rattle.rules.specs.declared.Report.{Report}
 use Rattle.rules.specs.Rules.{slots, stopped_of, start_of, tolerance_at}
@@ -8,7 +8,6 @@ use Rattle.rules.specs.Refusals.{opening_refusal, answer_refusal, same_side}
 use Rattle.rules.specs.Search.{begin_of, offer_of, take_of, progress_of, bracket_report, report_at, report_of}
 use Rattle.held.specs.Held.{fresh_of, reopen_of, standing_of, held_report, enter_of}
 use Rattle.dispatching.specs.declared.Dispatcher.{Dispatcher}
-use Rattle.dispatching.specs.declared.Turn.{Turn}
 use Rattle.dispatching.specs.Dispatching.{fresh_dispatcher, search_at, unfinished, first_from, turn_of, raised, settled_by, opening_at}
 use Rattle.dispatching.specs.Dispatching.{answer_at, dryer_report}
 use Rattle.dispatching.specs.Calls.{Call, opening, answer, call_of, dispatcher_after, reports_of, servings, servings_in, sum_of, with_counts}
@@ -37,12 +36,12 @@ abbrev marked : Dispatcher → ℕ → Dispatcher
 marked d n = record { searches = d.searches; last = n; counts = d.counts }
 
 -- whose turn it is after each call of a run
-abbrev turns_of : Dispatcher → List Call → List Turn
+abbrev turns_of : Dispatcher → List Call → List (Option ℕ)
 turns_of d [] = []
 turns_of d (c ∷ calls) = turn_of (call_of d c).dispatcher ∷ turns_of (call_of d c).dispatcher calls
 
-abbrev D : ℕ → Turn
-D = Turn.Dryer
+abbrev D : ℕ → Option ℕ
+D = Some
 
 abbrev next : ℕ → ℕ → Report
 next = Report.Next
@@ -114,7 +113,7 @@ nearly_together = 4 ∷ 500000000 ∷ 499999988 ∷ 0 ∷ 7 ∷ 0 ∷ []
 
 record Worked : Type 0 where
   -- ---- nobody's turn at first, and no search
-  fresh_turn : turn_of fresh_dispatcher ≡ Turn.Nobody
+  fresh_turn : turn_of fresh_dispatcher ≡ None
   fresh_report : map (dryer_report fresh_dispatcher) (0 ∷ 5 ∷ 6 ∷ []) ≡ refuse 3 0 ∷ refuse 3 0 ∷ refuse 14 0 ∷ []
   -- ---- three dryers have a search: before any is served, counting starts at 0
   opened_turns : turns_of fresh_dispatcher openings ≡ D 4 ∷ D 1 ∷ D 1 ∷ []
@@ -147,13 +146,13 @@ record Worked : Type 0 where
   then_dryer_zero : turn_of (dispatcher_after six (take 5 round)) ≡ D 0
   -- ---- a search that has stopped: the turn passes it by, a refused opening leaves it there, and an accepted one takes its place
   later_reports : reports_of fresh_dispatcher later ≡ next 0 0 ∷ next 1 1 ∷ Report.Stop 0 1 0 2 ∷ refuse 3 0 ∷ refuse 15 0 ∷ next 0 0 ∷ []
-  later_turns : turns_of fresh_dispatcher later ≡ D 5 ∷ D 5 ∷ Turn.Nobody ∷ Turn.Nobody ∷ Turn.Nobody ∷ D 5 ∷ []
+  later_turns : turns_of fresh_dispatcher later ≡ D 5 ∷ D 5 ∷ None ∷ None ∷ None ∷ D 5 ∷ []
   refused_opening : dryer_report (dispatcher_after fresh_dispatcher (take 4 later)) 5 ≡ Report.Stop 0 1 0 2
   -- the accepted one begins anew: no answer of the search before it is left. The count of those served there is not cleared
   reopened : search_at (dispatcher_after fresh_dispatcher later) 5 ≡ fresh_of wide
   uncleared : (dispatcher_after fresh_dispatcher later).counts ≡ 0 ∷ 0 ∷ 0 ∷ 0 ∷ 0 ∷ 2 ∷ []
   -- ---- searches that are refused never get the turn, and an opening may take their place
-  junk_turn : turn_of junk ≡ Turn.Nobody
+  junk_turn : turn_of junk ≡ None
   junk_reports : dryer_report junk 2 ∷ reports_of junk (first 2 ∷ opening 2 wide ∷ first 2 ∷ []) ≡ refuse 9 0 ∷ refuse 15 0 ∷ next 0 0 ∷ next 100 1 ∷ []
   -- ---- the counts at the ceiling: each has its own
   ceilings : map raised (0 ∷ 999999999 ∷ 1000000000 ∷ 4294967295 ∷ []) ≡ 1 ∷ 1000000000 ∷ 1000000000 ∷ 4294967295 ∷ []

@@ -1,7 +1,7 @@
 -- The claim about whole runs of a dispatcher holds. While a dryer waits, every answer served elsewhere leaves fewer dryers to be asked before
 -- it, and at first they are five at most; the rest is one call at a time, and induction.
 -- Assumes nothing.
-use Rattle.std.specs.Prelude.{ℕ, ◌+◌, ◌≤◌, ◌<◌, ◌≡◌, true, false, cond, not, List, ltb, length, take, drop}
+use Rattle.std.specs.Prelude.{ℕ, ◌+◌, ◌≤◌, ◌<◌, ◌≡◌, true, false, cond, not, List, Some, ltb, length, take, drop}
 use Rattle.std.proofs.Common.{sym, ap, ap₂, subst, ◌∙◌, arith}
 use Rattle.rules.specs.declared.Opening.{Opening}
 use Rattle.rules.specs.declared.Answer.{Answer}
@@ -9,7 +9,6 @@ use Rattle.rules.specs.declared.Report.{Report}
 use Rattle.held.specs.declared.Search.{Search}
 use Rattle.held.specs.Held.{blank, held_report}
 use Rattle.dispatching.specs.declared.Dispatcher.{Dispatcher}
-use Rattle.dispatching.specs.declared.Turn.{Turn}
 use Rattle.dispatching.specs.Dispatching.{dryers, no_such_dryer, search_at, unfinished, turn_of, dryer_report}
 use Rattle.dispatching.specs.Calls.{Call, dispatcher_after, dispatcher_at, servings, servings_in, among, lone_after, none, since, history_at}
 use Rattle.dispatching.specs.Run.{Waits, Kept, AtEach, CountsAtEach, EveryDispatcherRun}
@@ -36,7 +35,7 @@ module _ (d : Dispatcher) (calls : List Call) (i : ℕ) (dryer : i < dryers) (go
   five : length (servings d calls) ≤ 5
   five = omega (arith, after.fewer, (queued_somewhere d i dryer goes_on).1.near)
 
-  turn_after : length (servings d calls) ≡ 5 → turn_of (dispatcher_after d calls) ≡ Turn.Dryer i
+  turn_after : length (servings d calls) ≡ 5 → turn_of (dispatcher_after d calls) ≡ Some i
   turn_after e =
       next_turn (dispatcher_after d calls) i after.left after.queued (omega (arith, after.fewer, (queued_somewhere d i dryer goes_on).1.near))
 

@@ -1,7 +1,7 @@
 -- The laws of runs: what one call does to the one that goes on, to the mark and to a dryer's own search; and then a run, by induction. They
 -- know nothing of the counts.
 -- Assumes nothing.
-use Rattle.std.specs.Prelude.{ℕ, zero, suc, ◌+◌, ◌≤◌, ◌<◌, ◌≡◌, refl, ◌≢◌, Bool, true, false, cond, not, ◌||◌, eqb, length, take, drop}
+use Rattle.std.specs.Prelude.{ℕ, zero, suc, ◌+◌, ◌≤◌, ◌<◌, ◌≡◌, refl, ◌≢◌, Bool, true, false, cond, not, ◌||◌, Some, eqb, length, take, drop}
 use Rattle.std.proofs.Common.{sym, ap, ◌∙◌, arith, eqb-true, length-set, length-append, get_or-set_same, get_or-set_other}
 use Rattle.std.proofs.Math.Path.{subst}
 use mathlib.Core.List.{List, [], ◌∷◌, ◌++◌, append-nil, append_assoc}
@@ -11,7 +11,6 @@ use Rattle.rules.specs.Search.{is_refusal}
 use Rattle.held.specs.declared.Search.{Search}
 use Rattle.held.specs.Held.{blank}
 use Rattle.dispatching.specs.declared.Dispatcher.{Dispatcher}
-use Rattle.dispatching.specs.declared.Turn.{Turn}
 use Rattle.dispatching.specs.declared.Dispatched.{Dispatched}
 use Rattle.dispatching.specs.Dispatching.{dryers, search_at, turn_of}
 use Rattle.dispatching.proofs.DispatchingLaws.{left_by, lone_at, call_cases, due_dryer, Queued, nearer, as_near}
@@ -72,14 +71,14 @@ one_served : {i j : ℕ} → j ∷ [] ≡ i ∷ [] → j ≡ i
 one_served e = cc
 
 -- whoever is served had the turn, and is then the last served
-pub served_in_turn : (d : Dispatcher) (c : Call) (i : ℕ) → served_by d c ≡ i ∷ [] → (turn_of d ≡ Turn.Dryer i) × ((call_of d c).dispatcher.last ≡ i)
+pub served_in_turn : (d : Dispatcher) (c : Call) (i : ℕ) → served_by d c ≡ i ∷ [] → (turn_of d ≡ Some i) × ((call_of d c).dispatcher.last ≡ i)
 served_in_turn d c i =
-    served_cases d c (λ js d'. js ≡ i ∷ [] → (turn_of d ≡ Turn.Dryer i) × (d'.last ≡ i)) nobody_served
+    served_cases d c (λ js d'. js ≡ i ∷ [] → (turn_of d ≡ Some i) × (d'.last ≡ i)) nobody_served
     (λ due. accepted c due (lone_at d c).search)
   where
-    accepted : (c : Call) → Due d c → (s : Search) → serves c ≡ i ∷ [] → (turn_of d ≡ Turn.Dryer i) × ((left_by d c s).last ≡ i)
+    accepted : (c : Call) → Due d c → (s : Search) → serves c ≡ i ∷ [] → (turn_of d ≡ Some i) × ((left_by d c s).last ≡ i)
     accepted (opening j o) due s e = nobody_served e
-    accepted (answer j a) due s e = (due.1 ∙ ap Turn.Dryer (one_served e), one_served e)
+    accepted (answer j a) due s e = (due.1 ∙ ap Some (one_served e), one_served e)
 
 -- where nobody is served, the mark stays
 pub unserved_mark : (d : Dispatcher) (c : Call) → served_by d c ≡ [] → (call_of d c).dispatcher.last ≡ d.last

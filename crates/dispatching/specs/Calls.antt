@@ -1,7 +1,7 @@
 -- Runs of calls to a dispatcher: openings and answers in any mixture, each call getting the dispatcher as the one before left it. What
 -- the claim in `Run` speaks of: the dryers served, the counts, a dryer's own calls, and what its search is by these alone.
 -- Assumes nothing.
-use Rattle.std.specs.Prelude.{ℕ, ◌+◌, ◌<◌, min, max, ◌≡◌, Bool, false, cond, not, ◌||◌, List, [], ◌∷◌, ◌++◌, eqb, take, drop}
+use Rattle.std.specs.Prelude.{ℕ, ◌+◌, ◌<◌, min, max, ◌≡◌, Bool, false, cond, not, ◌||◌, List, [], ◌∷◌, ◌++◌, Some, eqb, take, drop}
 use Rattle.rules.specs.declared.Opening.{Opening}
 use Rattle.rules.specs.declared.Answer.{Answer}
 use Rattle.rules.specs.declared.Report.{Report}
@@ -10,7 +10,6 @@ use Rattle.held.specs.declared.Search.{Search}
 use Rattle.held.specs.declared.Entered.{Entered}
 use Rattle.held.specs.Held.{reopen_of, enter_of}
 use Rattle.dispatching.specs.declared.Dispatcher.{Dispatcher}
-use Rattle.dispatching.specs.declared.Turn.{Turn}
 use Rattle.dispatching.specs.declared.Dispatched.{Dispatched}
 use Rattle.dispatching.specs.Dispatching.{dryers, ceiling, search_at, unfinished, turn_of, raised, opening_at, answer_at}
 
@@ -124,7 +123,7 @@ lone_after s (c ∷ calls) = lone_after (lone_of s c).search calls
 -- neither 14 nor 15 nor 16 applies to a call
 abbrev pub Due : Dispatcher → Call → Type 0
 Due d (opening i o) = (i < dryers) × (unfinished (search_at d i) ≡ false)
-Due d (answer i a) = (i < dryers) × (turn_of d ≡ Turn.Dryer i)
+Due d (answer i a) = (i < dryers) × (turn_of d ≡ Some i)
 
 -- ---- a dryer's own opening and answers
 

@@ -1,7 +1,7 @@
 -- The dispatcher of requests 2026-04 and 2026-05: six dryers and one oven. Whose turn it is, an opening, an answer, the report of a dryer, and
 -- the counts.
 -- Assumes nothing.
-use Rattle.std.specs.Prelude.{ℕ, zero, suc, ◌+◌, ◌%◌, Bool, true, false, cond, not, List, ltb, eqb, get_or, set, replicate}
+use Rattle.std.specs.Prelude.{ℕ, zero, suc, ◌+◌, ◌%◌, Bool, true, false, cond, not, List, Option, Some, None, ltb, eqb, get_or, set, replicate}
 use Rattle.rules.specs.declared.Opening.{Opening}
 use Rattle.rules.specs.declared.Answer.{Answer}
 use Rattle.rules.specs.declared.Report.{Report}
@@ -10,7 +10,6 @@ use Rattle.held.specs.declared.Search.{Search}
 use Rattle.held.specs.declared.Entered.{Entered}
 use Rattle.held.specs.Held.{blank, reopen_of, held_report, enter_of}
 use Rattle.dispatching.specs.declared.Dispatcher.{Dispatcher}
-use Rattle.dispatching.specs.declared.Turn.{Turn}
 use Rattle.dispatching.specs.declared.Dispatched.{Dispatched}
 
 -- ---- the numbers
@@ -45,6 +44,10 @@ fresh_dispatcher = record { searches = replicate dryers blank; last = dryers; co
 abbrev pub search_at : Dispatcher → ℕ → Search
 search_at d i = get_or d.searches i blank
 
+-- the same for any number: none where there is no such dryer
+abbrev pub found_at : Dispatcher → ℕ → Option Search
+found_at d i = cond (ltb i dryers) (Some (search_at d i)) None
+
 -- the count of a dryer
 abbrev pub count_at : Dispatcher → ℕ → ℕ
 count_at d i = get_or d.counts i 0
@@ -65,20 +68,20 @@ unfinished s = is_next (held_report s)
 abbrev pub start_after : ℕ → ℕ
 start_after last = cond (ltb last dryers) (last + 1) 0
 
--- counting round from a dryer on, the first among the next n whose search is accepted and unfinished
-unfoldable pub first_from : List Search → ℕ → ℕ → Turn
-first_from ss at zero = Turn.Nobody
+-- counting round from a dryer on, the first among the next n whose search is accepted and unfinished; none where none is
+unfoldable pub first_from : List Search → ℕ → ℕ → Option ℕ
+first_from ss at zero = None
 first_from ss at (suc n) =
-    cond (unfinished (get_or ss (at % dryers) blank)) (Turn.Dryer (at % dryers)) (first_from ss (at + 1) n)
+    cond (unfinished (get_or ss (at % dryers) blank)) (Some (at % dryers)) (first_from ss (at + 1) n)
 
 -- all six are asked, the last served one last
-unfoldable pub turn_of : Dispatcher → Turn
+unfoldable pub turn_of : Dispatcher → Option ℕ
 turn_of d = first_from d.searches (start_after d.last) dryers
 
 -- whether it is dryer i's
-abbrev pub is_dryer : Turn → ℕ → Bool
-is_dryer (Turn.Dryer j) i = eqb j i
-is_dryer Turn.Nobody i = false
+abbrev pub is_dryer : Option ℕ → ℕ → Bool
+is_dryer (Some j) i = eqb j i
+is_dryer None i = false
 
 -- ---- what a call leaves
 

@@ -2,7 +2,7 @@
 -- of calls, of any length, one record whose fields are the requests' sentences, said of every place of the run. Nothing is proved here: `run` in
 -- RunHolds is the proof.
 -- Assumes nothing.
-use Rattle.std.specs.Prelude.{ℕ, ◌+◌, ◌≤◌, ◌<◌, ◌%◌, min, ◌≡◌, ◌≢◌, true, false, List, [], ◌∷◌, map, length, get_or, take}
+use Rattle.std.specs.Prelude.{ℕ, ◌+◌, ◌≤◌, ◌<◌, ◌%◌, min, ◌≡◌, ◌≢◌, true, false, List, [], ◌∷◌, Some, None, map, length, get_or, take}
 use Rattle.rules.specs.declared.Opening.{Opening}
 use Rattle.rules.specs.declared.Answer.{Answer}
 use Rattle.rules.specs.Refusals.{Accepted}
@@ -12,7 +12,6 @@ use Rattle.held.specs.Held.{blank, held_report}
 use Rattle.journal.specs.Journal.{journal_report}
 use Rattle.journal.specs.Run.{into, journal_of, holding, Run}
 use Rattle.dispatching.specs.declared.Dispatcher.{Dispatcher}
-use Rattle.dispatching.specs.declared.Turn.{Turn}
 use Rattle.dispatching.specs.Dispatching.{dryers, ceiling, fresh_dispatcher, search_at, count_at, unfinished, start_after, turn_of}
 use Rattle.dispatching.specs.Dispatching.{raised, dryer_report}
 use Rattle.dispatching.specs.Calls.{Call, opening, call_of, dryer_of, reports_of, dispatcher_at, served_by, servings, servings_in, among}
@@ -34,7 +33,7 @@ pub record First (ss : List Search) (at n i : ℕ) : Type 0 where
 -- and its search is accepted and unfinished still
 pub record Waits (d : Dispatcher) (calls : List Call) (p n i : ℕ) : Type 0 where
   pub at_most_five : length (servings_in d calls p n) ≤ 5
-  pub then_its_turn : length (servings_in d calls p n) ≡ 5 → turn_of (dispatcher_at d calls (p + n)) ≡ Turn.Dryer i
+  pub then_its_turn : length (servings_in d calls p n) ≡ 5 → turn_of (dispatcher_at d calls (p + n)) ≡ Some i
   pub goes_on : unfinished (search_at (dispatcher_at d calls (p + n)) i) ≡ true
 
 -- a search is that of an opening and answers by demand 3: the opening is accepted, the answers are the journal, the search holds them and
@@ -56,11 +55,11 @@ pub record SameButCounts (d d' : Dispatcher) : Type 0 where
 -- what is true of a dispatcher, and of whatever call c comes next
 pub record AtEach (d : Dispatcher) : Type 0 where
   -- the oven's turn goes to the next dryer, counting round from the one after the last served, whose search is accepted and unfinished
-  pub next : (i : ℕ) → turn_of d ≡ Turn.Dryer i → First d.searches (start_after d.last) dryers i
+  pub next : (i : ℕ) → turn_of d ≡ Some i → First d.searches (start_after d.last) dryers i
   -- where nobody has it, no dryer's is
-  pub nobody : (i : ℕ) → turn_of d ≡ Turn.Nobody → i < dryers → unfinished (search_at d i) ≡ false
+  pub nobody : (i : ℕ) → turn_of d ≡ None → i < dryers → unfinished (search_at d i) ≡ false
   -- a turn is served by an accepted answer: whoever a call serves has the turn, and is then the last served
-  pub in_turn : (i : ℕ) (c : Call) → served_by d c ≡ i ∷ [] → turn_of d ≡ Turn.Dryer i
+  pub in_turn : (i : ℕ) (c : Call) → served_by d c ≡ i ∷ [] → turn_of d ≡ Some i
   pub marked : (i : ℕ) (c : Call) → served_by d c ≡ i ∷ [] → (call_of d c).dispatcher.last ≡ i
   -- a call that serves nobody leaves the mark
   pub unmarked : (c : Call) → served_by d c ≡ [] → (call_of d c).dispatcher.last ≡ d.last

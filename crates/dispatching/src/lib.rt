@@ -22,13 +22,6 @@ pub struct Dispatcher {
     pub counts: [u32; ALL_DRYERS],
 }
 
-// Whose turn the oven is.
-#[derive(Clone, Copy)]
-pub enum Turn {
-    Dryer { number: u32 },
-    Nobody,
-}
-
 // A report, and beside it the dispatcher as it then is.
 #[derive(Clone, Copy)]
 pub struct Dispatched {

@@ -14,6 +14,7 @@ pub enum Filled {
 }
 
 // Reads until the buffer is full, the input ends or a read fails; a read that a signal interrupts before it moves a byte is one that failed.
+// A loop of its own: std's read_exact does not say how many bytes came before the end, and read_to_end needs a heap.
 pub fn fill<R: Read>(from: &mut R, buf: &mut [u8]) -> Filled
     ensures within { Within result buf.new }
     ensures took { Took result buf.new (R.remaining from.old) (R.remaining from.new) }

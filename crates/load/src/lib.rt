@@ -87,28 +87,12 @@ fn draw_load(seed: u32) -> Entered
     let mut draw = next_draw(d);
     let first_value = drawn_value(draw);
     let mut load = Search::fresh(drawn_opening(a, b, c, d));
-    loop {
-        let report = load.report;
-        match report {
-            Report::Next { point, taken } => {
-                let setting = point as i32;
-                let value = placed_value(taken, first_value, drawn_value(draw));
-                let search = load.search;
-                load = search.enter(setting, value);
-                draw = next_draw(draw);
-            }
-            Report::Stop {
-                lower: _,
-                upper: _,
-                better: _,
-                taken: _,
-            } => return load,
-            Report::Refused {
-                number: _,
-                place: _,
-            } => return load,
-        }
+    while let Report::Next { point, taken } = load.report {
+        let value = placed_value(taken, first_value, drawn_value(draw));
+        load = load.search.enter(point as i32, value);
+        draw = next_draw(draw);
     }
+    load
 }
 
 // Whether a number is from 1 to 2,147,483,646.

@@ -49,12 +49,12 @@ module _ (seed x : ℕ) (e : Entered) (d : Drawing seed x e) where
   few = omega (arith, going_quoted seed d.n d.going, most_fits seed)
 
   -- where no point is called for the search has stopped
-  pub drawing_end : ((row_of e.report).kind ≡ next_kind → ⊥) → e ≡ held_part seed (values_drawn seed)
+  pub drawing_end : ((point taken : ℕ) → e.report ≡ Report.Next point taken → ⊥) → e ≡ held_part seed (values_drawn seed)
   drawing_end h = d.held ∙ ap (held_part seed) (drawn_is seed d.n d.going (go (stopped_after seed d.n) refl))
     where
       go : (b : Bool) → stopped_after seed d.n ≡ b → b ≡ true
       go true g = refl
-      go false g = absurd (h (ap (λ (r : Report). (row_of r).kind) (report_is ∙ (goes seed d.n d.going g).called)))
+      go false g = absurd (h _ _ (report_is ∙ (goes seed d.n d.going g).called))
 
   module _ (point taken : ℕ) (f : e.report ≡ Report.Next point taken) where
     -- and where one is, it has not

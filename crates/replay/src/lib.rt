@@ -29,10 +29,8 @@ fn make_calls(
 {
     let n = runs::number_of_calls(kinds, points, values, rows);
     let mut search = begun;
-    let mut i = 0;
-    while i < n {
+    for i in 0..n {
         search = runs::call_at(i, search, kinds, points, values, rows);
-        i += 1;
     }
     search
 }

@@ -1,48 +1,25 @@
 // Whose turn the oven is: counting round from the one after the last served, the first dryer whose search is accepted and unfinished.
 #![tactic(auto)]
 
-ghost use Rattle.std.specs.Prelude.{◌≡◌, ◌<◌};
-ghost use Rattle.dispatching.specs.Dispatching.{dryers, search_at, is_next, unfinished, start_after, turn_of};
+ghost use Rattle.std.specs.Prelude.{◌≡◌};
+ghost use Rattle.dispatching.specs.Dispatching.{found_at, unfinished, start_after, turn_of};
 
-use dispatching::{Dispatcher, Turn};
+use dispatching::Dispatcher;
 use held::Search;
 use rules::Report;
 
-// Whether a report is a next point.
-fn is_next(report: Report) -> bool
-    ensures { result ≡ is_next report }
+// Whether a search is accepted and unfinished: its report is a next point.
+pub fn goes_on(search: &Search) -> bool
+    ensures { result ≡ unfinished search.now }
 {
-    match report {
-        Report::Next { point: _, taken: _ } => true,
-        Report::Stop {
-            lower: _,
-            upper: _,
-            better: _,
-            taken: _,
-        } => false,
-        Report::Refused {
-            number: _,
-            place: _,
-        } => false,
-    }
+    matches!(search.report(), Report::Next { .. })
 }
 
-// Whether a search is accepted and unfinished.
-pub fn goes_on(search: Search) -> bool
-    ensures { result ≡ unfinished search }
+// The search at a dryer, where there is such a dryer.
+pub fn search_at(d: Dispatcher, dryer: u32) -> Option<Search>
+    ensures { result ≡ found_at d dryer }
 {
-    let report = search.report();
-    is_next(report)
-}
-
-// The search at a dryer.
-pub fn search_at(d: Dispatcher, dryer: u32) -> Search
-    requires { dryer < dryers }
-    ensures { result ≡ search_at d dryer }
-{
-    let at = dryer as usize;
-    let search = d.searches[at];
-    search
+    d.searches.get(dryer as usize).copied()
 }
 
 // Where counting starts.
@@ -57,19 +34,15 @@ fn start_after(last: u32) -> u32
 }
 
 // The dryer that has the turn, or nobody.
-pub fn turn(d: Dispatcher) -> Turn
-    ensures { result ≡ turn_of d }
+pub fn turn(d: &Dispatcher) -> Option<u32>
+    ensures { result ≡ turn_of d.now }
 {
-    let mut at = start_after(d.last);
-    let mut left: u32 = dispatching::DRYERS;
-    while 0 < left {
-        let dryer = at % dispatching::DRYERS;
-        let search = d.searches[dryer as usize];
-        if goes_on(search) {
-            return Turn::Dryer { number: dryer };
+    let first = start_after(d.last);
+    for i in 0..dispatching::DRYERS {
+        let dryer = (first + i) % dispatching::DRYERS;
+        if goes_on(&d.searches[dryer as usize]) {
+            return Some(dryer);
         }
-        at += 1;
-        left -= 1;
     }
-    Turn::Nobody
+    None
 }

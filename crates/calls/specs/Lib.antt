@@ -1,2 +1,0 @@
--- The modules of `specs/`.
-pub mod Stored
