@@ -9,7 +9,8 @@ ghost use Rattle.sheet_text.specs.Pieces.{field_text, last_text, tail_text, open
 
 use rules::Opening;
 
-// The digits of a number: those of its tenth part, and the last.
+// The digits of a number: those of its tenth part, and the last. By lines::put_number they would go into a line of their own first, and be
+// copied from there: no plainer, and a copy more for each number.
 fn put_digits(out: &mut [u8], at: usize, n: u32) -> usize
     requires { at + length (decimal_of n) ≤ length out.old }
     ensures { Puts out.old at (decimal_of n) out.new result }
