@@ -2,12 +2,14 @@
 -- the text's own with 0 as m; so the claims on clean sheets, of the twin, are claims on the text.
 -- Assumes nothing.
 use Rattle.std.specs.Prelude.{ℕ, zero, suc, ◌≤◌, ◌≡◌, refl, Bool, true, false, cond, List, [], ◌∷◌, ◌⊎◌, ℤ, pos, negsuc, length}
+use Rattle.std.specs.Prelude.{Result, Ok, Err}
 use Rattle.std.proofs.Common.{sym, ap, subst, ◌∙◌, inl, inr, arith}
 use Rattle.integers.specs.Signs.{eq_z}
 use Rattle.integers.proofs.SignsLaws.{never, eq_eq_z}
 use Rattle.rules.specs.declared.Opening.{Opening}
 use Rattle.rules.specs.declared.Method.{Method}
 use Rattle.rules.specs.declared.Answer.{Answer}
+use Rattle.rules.specs.declared.Refusal.{Refusal}
 use Rattle.rules.specs.Rules.{slots}
 use Rattle.rules.specs.Refusals.{Accepted}
 use Rattle.rules.proofs.RefusalsLaws.{Ranged, opened}
@@ -15,7 +17,6 @@ use Rattle.rules.specs.Search.{is_refused, progress_of, is_refusal}
 use Rattle.held.specs.declared.Search.{Search}
 use Rattle.held.specs.declared.Entered.{Entered}
 use Rattle.held.specs.Held.{values_of, held_report}
-use Rattle.forms.specs.declared.Form.{Form}
 use Rattle.forms.specs.declared.Entries.{Entries}
 use Rattle.forms.specs.Entries.{filled, entries_of}
 use Rattle.outcomes.specs.Sheet.{judged, sheet_of}
@@ -155,13 +156,13 @@ pub refused_before : RefusedBefore
 unfolding cleaned_of changed_search
 refused_before = record { sheet = λ text h. simp h; search = λ s h. simp h }
 
-form_read : (m : Method) (text : List ℕ) → is_refusal (sheet_under m text).report ≡ false → (entries_of text).form ≡ Form.Read
+form_read : (m : Method) (text : List ℕ) → is_refusal (sheet_under m text).report ≡ false → (entries_of text).form ≡ Ok tt
 unfolding sheet_under
 form_read m text taken = go (entries_of text).form refl taken
   where
-    go : (f : Form) → (entries_of text).form ≡ f → is_refusal (judged (entries_under m (entries_of text)) f).report ≡ false → f ≡ Form.Read
-    go Form.Read e h = refl
-    go (Form.Refused n k) e h = never h
+    go : (f : Result (Unit {0}) Refusal) → (entries_of text).form ≡ f → is_refusal (judged (entries_under m (entries_of text)) f).report ≡ false → f ≡ Ok tt
+    go (Ok u) e h = refl
+    go (Err r) e h = never h
 
 pub changed_sheets : EveryChangedSheet
 changed_sheets text taken =

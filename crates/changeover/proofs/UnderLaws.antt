@@ -2,7 +2,7 @@
 -- they call for the same points and have the same reports. With the number of m in place of 0 an opening is accepted where it was, and stands
 -- for m.
 -- Assumes nothing.
-use Rattle.std.specs.Prelude.{ℕ, ◌≡◌, Bool, cond, eqb, ltb, ℤ, pos, take}
+use Rattle.std.specs.Prelude.{ℕ, ◌≡◌, Bool, cond, eqb, ltb, ℤ, pos, take, Result, Ok, Err}
 use Rattle.std.proofs.Math.Path.{refl, ap}
 use Rattle.std.proofs.Common.{sym, subst, ◌∙◌}
 use Rattle.std.proofs.Math.Bool.{true, false}
@@ -13,13 +13,13 @@ use Rattle.rules.specs.declared.Opening.{Opening}
 use Rattle.rules.specs.declared.Method.{Method}
 use Rattle.rules.specs.declared.Bracket.{Bracket}
 use Rattle.rules.specs.declared.Progress.{Progress}
+use Rattle.rules.specs.declared.Refusal.{Refusal}
 use Rattle.rules.specs.Rules.{slots, house, method_of, tolerance_at, stopped_of, offset_of, next_of}
 use Rattle.rules.specs.Refusals.{opening_refusal, count_above}
 use Rattle.rules.specs.Search.{other_at, begin_of, offer_of, take_of, progress_of, answers_of, bracket_report, report_at, report_of}
 use Rattle.held.specs.declared.Search.{Search}
 use Rattle.held.specs.declared.Entered.{Entered}
 use Rattle.held.specs.Held.{values_of, standing_of, held_report}
-use Rattle.forms.specs.declared.Form.{Form}
 use Rattle.forms.specs.declared.Entries.{Entries}
 use Rattle.forms.specs.Entries.{opening_place, entries_of}
 use Rattle.outcomes.specs.Sheet.{leads_to, settled_as, refused_at, outcome_of, judged, sheet_of}
@@ -140,14 +140,14 @@ pub under_other : (m : Method) (o : Opening) → (o.method ≡ pos 0 → ⊥) �
 unfolding opening_under
 under_other m o h = rw (ne_eq_z o.method (pos 0) h)
 
-pub sheet_others : (m : Method) (text : List ℕ) → ((entries_of text).form ≡ Form.Read → (entries_of text).opening.method ≡ pos 0 → ⊥)
+pub sheet_others : (m : Method) (text : List ℕ) → ((entries_of text).form ≡ Ok tt → (entries_of text).opening.method ≡ pos 0 → ⊥)
     → sheet_under m text ≡ sheet_of text
 unfolding sheet_under sheet_of
 sheet_others m text h = go (entries_of text) (entries_of text).form h
   where
-    go : (e : Entries) (f : Form) → (f ≡ Form.Read → e.opening.method ≡ pos 0 → ⊥) → judged (entries_under m e) f ≡ judged e f
-    go e (Form.Refused n k) h = refl
-    go e Form.Read h = rw (under_other m e.opening (h refl))
+    go : (e : Entries) (f : Result (Unit {0}) Refusal) → (f ≡ Ok tt → e.opening.method ≡ pos 0 → ⊥) → judged (entries_under m e) f ≡ judged e f
+    go e (Err r) h = refl
+    go e (Ok u) h = rw (under_other m e.opening (h refl))
 
 -- the outcome with 0 as m, from what a text's records are read as
 module _ (m : Method) (text : List ℕ) (e : Entries) (f : e ≡ entries_of text) where
@@ -155,7 +155,7 @@ module _ (m : Method) (text : List ℕ) (e : Entries) (f : e ≡ entries_of text
   unfolding sheet_under
   under_judged = rw (← f)
 
-  pub under_read : e.form ≡ Form.Read → outcome_of (entries_under m e) ≡ sheet_under m text
+  pub under_read : e.form ≡ Ok tt → outcome_of (entries_under m e) ≡ sheet_under m text
   unfolding sheet_under
   under_read g = rw (← f, g)
 
@@ -217,6 +217,6 @@ pub sheet_same : (text : List ℕ) → (sheet_under house text).report ≡ (shee
 unfolding sheet_under sheet_of
 sheet_same text = go (entries_of text) (entries_of text).form
   where
-    go : (e : Entries) (f : Form) → (judged (entries_under house e) f).report ≡ (judged e f).report
-    go e (Form.Refused n k) = refl
-    go e Form.Read = outcome_same e
+    go : (e : Entries) (f : Result (Unit {0}) Refusal) → (judged (entries_under house e) f).report ≡ (judged e f).report
+    go e (Err r) = refl
+    go e (Ok u) = outcome_same e

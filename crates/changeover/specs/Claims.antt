@@ -2,7 +2,7 @@
 -- search that the old reading accepts; and on those that it refuses. Nothing is proved here: ClaimsHold has the proofs. The contracts of
 -- `old_sheets::read_old_sheet`, `old_sheets::change_sheet` and `changing::change_search` say what is told and left, and cite the claims.
 -- Assumes nothing.
-use Rattle.std.specs.Prelude.{ℕ, ◌≤◌, ◌≡◌, true, false, cond, List, ◌⊎◌, ℤ, pos, length}
+use Rattle.std.specs.Prelude.{ℕ, ◌≤◌, ◌≡◌, true, false, cond, List, ◌⊎◌, ℤ, pos, length, Ok}
 use Rattle.integers.specs.Signs.{eq_z}
 use Rattle.rules.specs.declared.Opening.{Opening}
 use Rattle.rules.specs.declared.Method.{Method}
@@ -12,7 +12,6 @@ use Rattle.rules.specs.Refusals.{opening_refusal}
 use Rattle.rules.specs.Search.{report_of, is_refusal}
 use Rattle.held.specs.declared.Search.{Search}
 use Rattle.held.specs.Held.{held_report}
-use Rattle.forms.specs.declared.Form.{Form}
 use Rattle.forms.specs.Entries.{entries_of}
 use Rattle.outcomes.specs.Sheet.{sheet_of}
 use Rattle.journal.specs.Spelling.{CleanText}
@@ -31,7 +30,7 @@ pub record Under : Type 0 where
   -- an opening with 0 stands for m, and every other for what it stands for today
   pub method : (m : Method) (o : Opening) → method_of (opening_under m o) ≡ cond (eq_z o.method (pos 0)) m (method_of o)
   -- a text that is not read with method 0 has one outcome, whatever m is: today's
-  pub others : (m : Method) (text : List ℕ) → ((entries_of text).form ≡ Form.Read → (entries_of text).opening.method ≡ pos 0 → ⊥)
+  pub others : (m : Method) (text : List ℕ) → ((entries_of text).form ≡ Ok tt → (entries_of text).opening.method ≡ pos 0 → ⊥)
       → sheet_under m text ≡ sheet_of text
   -- with 0 as m a text is what every text is today that has the number of m in place of 0, and the same answers; refused or not
   pub twin : (m : Method) (text t : List ℕ) (o : Opening) (answers : List Answer) → ReadAs text o answers → ReadAs t (opening_under m o) answers

@@ -1,7 +1,7 @@
 -- The claims on clean sheets hold. An accepted search holds a journal that answers have made, so its clean sheet spells that journal, and
 -- the reader reads it as the search that holds it. An accepted sheet is read as such a journal too.
 -- Assumes nothing.
-use Rattle.std.specs.Prelude.{ℕ, ◌≤◌, ◌≡◌, Bool, true, cond, eqb, ℤ, length}
+use Rattle.std.specs.Prelude.{ℕ, ◌≤◌, ◌≡◌, Bool, true, cond, eqb, ℤ, length, Result, Ok, Err}
 use Rattle.std.proofs.Math.Path.{refl, sym, ap}
 use Rattle.std.proofs.Common.{ap₂, subst, subst₂, ◌∙◌, arith, eqb-true, length-take-le}
 use Rattle.std.proofs.Math.Bool.{false}
@@ -10,6 +10,7 @@ use Rattle.integers.proofs.SignsLaws.{never}
 use Rattle.rules.specs.declared.Opening.{Opening}
 use Rattle.rules.specs.declared.Answer.{Answer}
 use Rattle.rules.specs.declared.Progress.{Progress}
+use Rattle.rules.specs.declared.Refusal.{Refusal}
 use Rattle.rules.specs.declared.Report.{Report}
 use Rattle.rules.specs.Rules.{slots, padded}
 use Rattle.rules.specs.Refusals.{opening_refusal, Accepted}
@@ -21,7 +22,6 @@ use Rattle.verdicts.proofs.JudgedLaws.{standing_fine}
 use Rattle.held.specs.declared.Search.{Search}
 use Rattle.held.specs.declared.Entered.{Entered}
 use Rattle.held.specs.Held.{values_of, standing_of, held_report}
-use Rattle.forms.specs.declared.Form.{Form}
 use Rattle.forms.specs.declared.Entries.{Entries}
 use Rattle.forms.specs.Entries.{opening_place, filled, entries_of}
 use Rattle.outcomes.specs.Sheet.{leads_to, settled_as, refused_at, outcome_of, sheet_of}
@@ -136,12 +136,12 @@ unfolding cleaned_of
 accepted_cleaned e h = simp h
 
 module _ (text : List ℕ) (taken : is_refusal (sheet_of text).report ≡ false) where
-  pub form_read : (entries_of text).form ≡ Form.Read
+  pub form_read : (entries_of text).form ≡ Ok tt
   form_read = go (entries_of text).form refl
     where
-      go : (f : Form) → (entries_of text).form ≡ f → f ≡ Form.Read
-      go Form.Read e = refl
-      go (Form.Refused n k) e = never (ap (λ (r : Entered). is_refusal r.report) (sheet_refused text (entries_of text) refl n k e) ∙ taken)
+      go : (f : Result (Unit {0}) Refusal) → (entries_of text).form ≡ f → f ≡ Ok tt
+      go (Ok u) e = refl
+      go (Err r) e = never (ap (λ (s : Entered). is_refusal s.report) (sheet_refused text (entries_of text) refl r e) ∙ taken)
 
   module _ (o : Opening) (answers : List Answer) (r : ReadAs text o answers) where
     abbrev e : Entries

@@ -2,11 +2,12 @@
 -- the number's bytes, or these between double quotes.
 -- Assumes nothing.
 use Rattle.std.specs.Prelude.{ℕ, suc, ◌-◌, ◌≤◌, ◌≡◌, refl, Bool, true, false, cond, List, [], ◌∷◌, ◌++◌, length, take, drop, get_or, ℤ, eqb}
+use Rattle.std.specs.Prelude.{None, Some}
 use Rattle.std.proofs.Common.{sym, ap, ap₂, subst, ◌∙◌, arith, length-append, take-append-drop, drop_of_length-le, take_at, drop-cons, ne_eqb, le-leb, eqb-true}
 use Rattle.std.proofs.Math.Bool.{and-false}
 use Rattle.std.proofs.lemmas.List.{get_or_at}
 use Rattle.std.proofs.lemmas.Bool.{eqb-false}
-use Rattle.forms.specs.declared.Number.{Number}
+use Rattle.std.proofs.lemmas.Option.{none-some}
 use Rattle.forms.specs.Text.{comma, double_quote, onto, fields_of}
 use Rattle.forms.specs.Number.{minus, is_digit, all_digits, signed_of, number_of}
 use Rattle.forms.specs.Entries.{field_of}
@@ -74,13 +75,13 @@ fields_whole (x ∷ s) = go (eqb x comma) refl (fields_whole s)
 
 -- ---- a field is read as a number, or as one between double quotes
 
-no_number : (s : List ℕ) → number_of (double_quote ∷ s) ≡ Number.Malformed
+no_number : (s : List ℕ) → number_of (double_quote ∷ s) ≡ None
 unfolding number_of signed_of all_digits
 no_number s = simp and-false
 
 -- after an opening quote: a number, and the closing quote last
 pub enclosed_read : (s : List ℕ)
-    → field_of (double_quote ∷ s) ≡ cond (eqb (get_or s (length s - 1) 0) double_quote) (number_of (take (length s - 1) s)) Number.Malformed
+    → field_of (double_quote ∷ s) ≡ cond (eqb (get_or s (length s - 1) 0) double_quote) (number_of (take (length s - 1) s)) None
 unfolding field_of
 enclosed_read [] = no_number []
 enclosed_read (b ∷ s) =
@@ -90,11 +91,11 @@ enclosed_read (b ∷ s) =
     let d : suc n - 1 ≡ n = omega arith in
     simp (a, c, d, le-leb 2 (suc (suc n)) (omega arith)) (cases (eqb (get_or (b ∷ s) n 0) double_quote))
   where
-    cases : (t : Bool) → number_of (cond t (take (length s) (b ∷ s)) (double_quote ∷ b ∷ s)) ≡ cond t (number_of (take (length s) (b ∷ s))) Number.Malformed
+    cases : (t : Bool) → number_of (cond t (take (length s) (b ∷ s)) (double_quote ∷ b ∷ s)) ≡ cond t (number_of (take (length s) (b ∷ s))) None
     cases true = refl
     cases false = no_number (b ∷ s)
 
-pub enclosed_last : (s : List ℕ) (x : ℕ) → field_of (double_quote ∷ s ++ x ∷ []) ≡ cond (eqb x double_quote) (number_of s) Number.Malformed
+pub enclosed_last : (s : List ℕ) (x : ℕ) → field_of (double_quote ∷ s ++ x ∷ []) ≡ cond (eqb x double_quote) (number_of s) None
 enclosed_last s x =
     let n : length (s ++ x ∷ []) - 1 ≡ length s = omega (arith, length-append s (x ∷ [])) in
     enclosed_read (s ++ x ∷ []) ∙ rw n (simp (get_or_at s x [] 0 (length s) refl, take_at s (x ∷ []) (length s) refl))
@@ -106,12 +107,12 @@ bare_read b s e = simp (e, and-false)
 
 -- both spellings of a number are read as it
 
-pub number_field : (f : List ℕ) (z : ℤ) → number_of f ≡ Number.Is z → field_of f ≡ Number.Is z
+pub number_field : (f : List ℕ) (z : ℤ) → number_of f ≡ Some z → field_of f ≡ Some z
 unfolding number_of
-number_field [] z e = let n : ◌≡◌ {A = ℕ} 0 1 = cc in absurd (omega arith)
+number_field [] z e = absurd (none-some z e)
 number_field (b ∷ s) z e = bare_read b s (ne_eqb b double_quote ((number_bytes (b ∷ s) z e).lacks double_quote refl refl).0) ∙ e
 
-pub enclosed_field : (s : List ℕ) (z : ℤ) → number_of s ≡ Number.Is z → field_of (double_quote ∷ s ++ double_quote ∷ []) ≡ Number.Is z
+pub enclosed_field : (s : List ℕ) (z : ℤ) → number_of s ≡ Some z → field_of (double_quote ∷ s ++ double_quote ∷ []) ≡ Some z
 enclosed_field s z e = enclosed_last s double_quote ∙ e
 
 -- and nothing else is
@@ -130,17 +131,17 @@ closed_whole (b ∷ s) e =
     ∙ ap₂ (λ (x : ℕ) (t : List ℕ). x ∷ t) (eqb-true _ double_quote e) (drop_of_length-le (b ∷ s) {i = suc n} (omega arith)) in
     ap (λ (t : List ℕ). take n (b ∷ s) ++ t) (sym last) ∙ take-append-drop n (b ∷ s)
 
-enclosed_text : (s : List ℕ) (z : ℤ) → field_of (double_quote ∷ s) ≡ Number.Is z → FieldText (double_quote ∷ s) z
+enclosed_text : (s : List ℕ) (z : ℤ) → field_of (double_quote ∷ s) ≡ Some z → FieldText (double_quote ∷ s) z
 enclosed_text s z e = go (eqb (get_or s (length s - 1) 0) double_quote) refl (sym (enclosed_read s) ∙ e)
   where
-    go : (t : Bool) → eqb (get_or s (length s - 1) 0) double_quote ≡ t → cond t (number_of (take (length s - 1) s)) Number.Malformed ≡ Number.Is z
+    go : (t : Bool) → eqb (get_or s (length s - 1) 0) double_quote ≡ t → cond t (number_of (take (length s - 1) s)) None ≡ Some z
         → FieldText (double_quote ∷ s) z
     go true c f = subst (λ (u : List ℕ). FieldText (double_quote ∷ u) z) (closed_whole s c) (enclosed (number_text (take (length s - 1) s) z f))
-    go false c f = let n : ◌≡◌ {A = ℕ} 0 1 = cc in absurd (omega arith)
+    go false c f = absurd (none-some z f)
 
-pub field_text : (f : List ℕ) (z : ℤ) → field_of f ≡ Number.Is z → FieldText f z
+pub field_text : (f : List ℕ) (z : ℤ) → field_of f ≡ Some z → FieldText f z
 unfolding field_of number_of
-field_text [] z e = let n : ◌≡◌ {A = ℕ} 0 1 = cc in absurd (omega arith)
+field_text [] z e = absurd (none-some z e)
 field_text (b ∷ s) z e = go (eqb b double_quote) refl
   where
     go : (t : Bool) → eqb b double_quote ≡ t → FieldText (b ∷ s) z
@@ -163,5 +164,5 @@ text_field (enclosed {s} n) =
           (other, lacks_append x s (double_quote ∷ []) (b.lacks x d m) (other, tt));
     }
 
-pub field_bytes : (f : List ℕ) (z : ℤ) → field_of f ≡ Number.Is z → FieldBytes f
+pub field_bytes : (f : List ℕ) (z : ℤ) → field_of f ≡ Some z → FieldBytes f
 field_bytes f z e = text_field (field_text f z e)

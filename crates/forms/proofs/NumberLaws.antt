@@ -1,9 +1,10 @@
 -- Laws of numbers: digits are read as their value, and a field that is read as a number is an optional minus and 1 to 5 digits.
 -- Assumes nothing.
 use Rattle.std.specs.Prelude.{ℕ, ◌+◌, ◌-◌, ◌*◌, ◌≤◌, ◌≡◌, refl, Bool, true, false, cond, ◌&&◌, List, [], ◌∷◌, ◌++◌, length, ℤ, pos, neg_ℤ, eqb, leb}
+use Rattle.std.specs.Prelude.{None, Some}
 use Rattle.std.proofs.Common.{ap, ◌∙◌, arith, ne_eqb, le-leb, leb-true, eqb-true}
 use Rattle.std.proofs.Math.Bool.{and-eq-true_iff}
-use Rattle.forms.specs.declared.Number.{Number}
+use Rattle.std.proofs.lemmas.Option.{none-some, cond_some}
 use Rattle.forms.specs.Number.{minus, is_digit, all_digits, value_from, value_of, is_numeral, signed, signed_of, number_of}
 use Rattle.forms.proofs.TextLaws.{Lacks}
 
@@ -54,20 +55,20 @@ numeral_is s e =
     let k = both (leb (length s) 5) (all_digits s) h.1 in
     record { some = leb-true 1 (length s) h.0; few = leb-true (length s) 5 k.0; digits = k.1 }
 
-signed_read : (negative : Bool) (s : List ℕ) → is_numeral s ≡ true → signed_of negative s ≡ Number.Is (signed negative (value_of s))
+signed_read : (negative : Bool) (s : List ℕ) → is_numeral s ≡ true → signed_of negative s ≡ Some (signed negative (value_of s))
 unfolding signed_of
-signed_read negative s e = ap (λ (b : Bool). cond b (Number.Is (signed negative (value_of s))) Number.Malformed) e
+signed_read negative s e = ap (λ (b : Bool). cond b (Some (signed negative (value_of s))) None) e
 
 -- a numeral is read as it is, and negated after a minus
 
-pub digits_read : (s : List ℕ) → is_numeral s ≡ true → number_of s ≡ Number.Is (pos (value_of s))
+pub digits_read : (s : List ℕ) → is_numeral s ≡ true → number_of s ≡ Some (pos (value_of s))
 unfolding number_of
 digits_read [] e = absurd (never false e refl)
 digits_read (b ∷ s) e =
     let d = digit_bytes b (digits_head b s (numeral_is (b ∷ s) e).digits).0 in
     simp (ne_eqb b minus (λ f. omega (arith, d.0))) (signed_read false (b ∷ s) e)
 
-pub minus_read : (s : List ℕ) → is_numeral s ≡ true → number_of (minus ∷ s) ≡ Number.Is (neg_ℤ (pos (value_of s)))
+pub minus_read : (s : List ℕ) → is_numeral s ≡ true → number_of (minus ∷ s) ≡ Some (neg_ℤ (pos (value_of s)))
 unfolding number_of
 minus_read s e = signed_read true s e
 
@@ -78,20 +79,16 @@ pub data NumberText : List ℕ → ℤ → Type 0 where
   plain : {s : List ℕ} → IsNumeral s → NumberText s (pos (value_of s))
   negated : {s : List ℕ} → IsNumeral s → NumberText (minus ∷ s) (neg_ℤ (pos (value_of s)))
 
-signed_is : (negative : Bool) (s : List ℕ) (z : ℤ) → signed_of negative s ≡ Number.Is z → (is_numeral s ≡ true) × (signed negative (value_of s) ≡ z)
+signed_is : (negative : Bool) (s : List ℕ) (z : ℤ) → signed_of negative s ≡ Some z → (is_numeral s ≡ true) × (signed negative (value_of s) ≡ z)
 unfolding signed_of
-signed_is negative s z e = go (is_numeral s) e
-  where
-    go : (t : Bool) → cond t (Number.Is (signed negative (value_of s))) Number.Malformed ≡ Number.Is z → (t ≡ true) × (signed negative (value_of s) ≡ z)
-    go true f = (refl, cc)
-    go false f = let n : ◌≡◌ {A = ℕ} 0 1 = cc in absurd (omega arith)
+signed_is negative s z e = cond_some (is_numeral s) (signed negative (value_of s)) z e
 
-pub number_text : (f : List ℕ) (z : ℤ) → number_of f ≡ Number.Is z → NumberText f z
+pub number_text : (f : List ℕ) (z : ℤ) → number_of f ≡ Some z → NumberText f z
 unfolding number_of
-number_text [] z e = let n : ◌≡◌ {A = ℕ} 0 1 = cc in absurd (omega arith)
+number_text [] z e = absurd (none-some z e)
 number_text (b ∷ s) z e = go (eqb b minus) refl e
   where
-    go : (t : Bool) → eqb b minus ≡ t → cond t (signed_of true s) (signed_of false (b ∷ s)) ≡ Number.Is z → NumberText (b ∷ s) z
+    go : (t : Bool) → eqb b minus ≡ t → cond t (signed_of true s) (signed_of false (b ∷ s)) ≡ Some z → NumberText (b ∷ s) z
     go true m f =
         let n = signed_is true s z f in
         rw (eqb-true b minus m, ← n.1) (negated (numeral_is s n.0))
@@ -116,5 +113,5 @@ text_bytes (negated {s} n) =
       lacks = λ x d k. ((λ g. never (eqb minus minus) refl (ap (λ (y : ℕ). eqb y minus) g ∙ k)), digits_lack x s d n.digits);
     }
 
-pub number_bytes : (f : List ℕ) (z : ℤ) → number_of f ≡ Number.Is z → NumberBytes f
+pub number_bytes : (f : List ℕ) (z : ℤ) → number_of f ≡ Some z → NumberBytes f
 number_bytes f z e = text_bytes (number_text f z e)

@@ -3,14 +3,12 @@
 -- on the length of the text is asked: a field has 8 bytes at most.
 -- Assumes nothing.
 use Rattle.std.specs.Prelude.{ℕ, suc, ◌+◌, ◌-◌, ◌*◌, ◌≤◌, ◌<◌, ◌≡◌, refl, false, length, set, ℤ, pos, eqb}
+use Rattle.std.specs.Prelude.{Some}
 use Rattle.std.proofs.Common.{sym, ap, ◌∙◌, arith, length-append, ne_eqb}
 use mathlib.Core.List.{List, [], ◌∷◌, ◌++◌, map, flatten, append-nil}
 use Rattle.std.proofs.Math.Seq.{set-append_seam, append_snoc}
 use Rattle.rules.specs.declared.Opening.{Opening}
 use Rattle.rules.specs.Rules.{slots, padded}
-use Rattle.forms.specs.declared.Number.{Number}
-use Rattle.forms.specs.declared.AnswerRecord.{AnswerRecord}
-use Rattle.forms.specs.declared.OpeningRecord.{OpeningRecord}
 use Rattle.forms.specs.Text.{cr, comma, double_quote}
 use Rattle.forms.specs.Number.{minus, is_digit}
 use Rattle.forms.specs.Entries.{longest_text, field_of, numbers_of, answer_of, opening_from, opening_of, filled, opened, entered, answers_from, records_read}
@@ -24,7 +22,7 @@ use Rattle.forms.proofs.EntriesLaws.{entries_short}
 -- each field is a spelling of its number
 pub data Spells : List (List ℕ) → List ℤ → Type 0 where
   none : Spells [] []
-  more : {f : List ℕ} {fs : List (List ℕ)} {z : ℤ} {zs : List ℤ} → field_of f ≡ Number.Is z → Spells fs zs → Spells (f ∷ fs) (z ∷ zs)
+  more : {f : List ℕ} {fs : List (List ℕ)} {z : ℤ} {zs : List ℤ} → field_of f ≡ Some z → Spells fs zs → Spells (f ∷ fs) (z ∷ zs)
 
 -- no field holds a byte that is no digit, no minus and no double quote
 fields_lack : (x : ℕ) → is_digit x ≡ false → eqb x minus ≡ false → eqb x double_quote ≡ false
@@ -32,11 +30,11 @@ fields_lack : (x : ℕ) → is_digit x ≡ false → eqb x minus ≡ false → e
 fields_lack x d m q none = tt
 fields_lack x d m q (more e h) = ((field_bytes _ _ e).lacks x d m q, fields_lack x d m q h)
 
-numbers_read : {fs : List (List ℕ)} {zs : List ℤ} → Spells fs zs → map field_of fs ≡ map Number.Is zs
+numbers_read : {fs : List (List ℕ)} {zs : List ℤ} → Spells fs zs → map field_of fs ≡ map Some zs
 numbers_read none = refl
 numbers_read (more e h) = cc (numbers_read h)
 
-pub row_numbers : {f : List ℕ} {fs : List (List ℕ)} {zs : List ℤ} → Spells (f ∷ fs) zs → numbers_of (joined (f ∷ fs)) ≡ map Number.Is zs
+pub row_numbers : {f : List ℕ} {fs : List (List ℕ)} {zs : List ℤ} → Spells (f ∷ fs) zs → numbers_of (joined (f ∷ fs)) ≡ map Some zs
 row_numbers {f} {fs} h =
     ap (map field_of) (fields_joined f fs (fields_lack comma refl refl refl h)) ∙ numbers_read h
 
@@ -64,7 +62,7 @@ row_short (more {f} {z = z} e (more {f = g} {fs = fs} r h)) =
 -- ---- a row with its line end, or without, is read as its numbers
 
 pub answer_read : {fs : List (List ℕ)} {point value : ℤ} {end : List ℕ} → Spells fs (point ∷ value ∷ []) → LineEnd end
-    → answer_of (joined fs ++ end) ≡ AnswerRecord.Answer point value
+    → answer_of (joined fs ++ end) ≡ Some (record { point = point; value = value })
 unfolding answer_of
 answer_read (more {f} {fs} e h) l =
     simp (body_of_lem l (joined (f ∷ fs)) (row_body (more e h)).no_end, row_numbers (more e h))
@@ -83,20 +81,20 @@ pub record SpellsOpening (fs : List (List ℕ)) (o : Opening) : Type 0 where
   pub numbers : Spells fs (opening_numbers o rest)
 
 row_opened : {fs : List (List ℕ)} (zs : List ℤ) {y z : ℤ} {end : List ℕ} → Spells fs (y ∷ z ∷ zs) → LineEnd end
-    → opening_of (joined fs ++ end) ≡ opening_from (map Number.Is (y ∷ z ∷ zs))
+    → opening_of (joined fs ++ end) ≡ opening_from (map Some (y ∷ z ∷ zs))
 unfolding opening_of
 row_opened zs (more {f} {fs} e h) l =
     ap (λ (b : List ℕ). opening_from (numbers_of b)) (body_of_lem l (joined (f ∷ fs)) (row_body (more e h)).no_end)
     ∙ ap opening_from (row_numbers (more e h))
 
 share_opened : {zs : List ℤ} {p : ℤ} → ShareNumbers zs p → (m x y t : ℤ)
-    → opening_from (map Number.Is (m ∷ x ∷ y ∷ t ∷ zs))
-    ≡ OpeningRecord.Opened (record { method = m; first = x; second = y; tolerance = t; share = p })
+    → opening_from (map Some (m ∷ x ∷ y ∷ t ∷ zs))
+    ≡ Some (record { method = m; first = x; second = y; tolerance = t; share = p })
 share_opened ShareNumbers.absent m x y t = refl
 share_opened ShareNumbers.present m x y t = refl
 
 pub opening_read : {fs : List (List ℕ)} {o : Opening} {end : List ℕ} → SpellsOpening fs o → LineEnd end
-    → opening_of (joined fs ++ end) ≡ OpeningRecord.Opened o
+    → opening_of (joined fs ++ end) ≡ Some o
 opening_read {o = o} h l =
     row_opened _ h.numbers l ∙ share_opened h.share o.method o.first o.second o.tolerance
 

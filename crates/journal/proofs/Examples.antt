@@ -1,7 +1,7 @@
 -- A run and sheets, worked by hand: what the journal tells, what the calls answer and what the search holds in the end hold by
 -- computation; each sheet is spelled byte by byte, clean ones too.
 -- Assumes nothing.
-use Rattle.std.specs.Prelude.{ℕ, ◌≤◌, ◌<◌, ◌≡◌, refl, ℤ, pos, nat_abs, length, take}
+use Rattle.std.specs.Prelude.{ℕ, ◌≤◌, ◌<◌, ◌≡◌, refl, Some, ℤ, pos, nat_abs, length, take}
 use Rattle.std.proofs.Common.{sym, ap, subst, ◌∙◌, inl, inr, arith}
 use mathlib.Core.List.{List, [], ◌∷◌, ◌++◌, map, zip_with}
 use Rattle.integers.specs.Digits.{digits, halvings}
@@ -17,7 +17,6 @@ use Rattle.rules.specs.Refusals.{opening_refusal, answer_refusal, same_side}
 use Rattle.rules.specs.Search.{turns_of, most_of, begin_of, offer_of, take_of, progress_of, bracket_report, report_at}
 use Rattle.rules.specs.Streak.{streak_over}
 use Rattle.held.specs.Held.{fresh_of, standing_of, held_report, enter_of}
-use Rattle.forms.specs.declared.Number.{Number}
 use Rattle.forms.specs.Number.{all_digits, value_from, signed_of, number_of}
 use Rattle.forms.specs.Entries.{integer_of, field_of}
 use Rattle.forms.specs.Bytes.{cr, lf}
@@ -212,7 +211,7 @@ zero_share_unclean c =
     absurd (omega (arith, ap length one))
 
 -- a field that is read as d is clean only if it is that digit's byte
-unclean : (f : List ℕ) (d : ℕ) → d ≤ 9 → field_of f ≡ Number.Is (pos d) → 1 < length f → (z : ℤ) → CleanNumeral f z → ⊥
+unclean : (f : List ℕ) (d : ℕ) → d ≤ 9 → field_of f ≡ Some (pos d) → 1 < length f → (z : ℤ) → CleanNumeral f z → ⊥
 unclean f d h e long z c =
     let same : z ≡ pos d = ap integer_of (sym (field_read (clean_field c)) ∙ e) in
     let one = one_numeral (subst (CleanNumeral f) same c) (clean_digit d h) in

@@ -1,7 +1,7 @@
 -- Laws of the spelling, both ways: a sheet in any spelling is read as its numbers, and what is read is spelled. No bound on the length
 -- of a text is asked. Then: every opening and list of answers whose numbers have five digits at most has a text.
 -- Assumes nothing.
-use Rattle.std.specs.Prelude.{ℕ, zero, suc, ◌+◌, ◌-◌, ◌*◌, ◌/◌, ◌%◌, ◌^◌, ◌≤◌, ◌<◌, ◌≡◌, refl, true, length, take, ℤ, pos, negsuc, nat_abs}
+use Rattle.std.specs.Prelude.{ℕ, zero, suc, ◌+◌, ◌-◌, ◌*◌, ◌/◌, ◌%◌, ◌^◌, ◌≤◌, ◌<◌, ◌≡◌, refl, true, length, take, ℤ, pos, negsuc, nat_abs, Some, Ok}
 use Rattle.std.proofs.Common.{sym, ap, subst, subst₂, ◌∙◌, pow-suc, div-add-mod', arith, length-append, take_at}
 use mathlib.Core.List.{List, [], ◌∷◌, ◌++◌, map, flatten, append-nil, append_assoc}
 use Rattle.std.proofs.lemmas.List.{length-map}
@@ -9,8 +9,6 @@ use Rattle.std.proofs.Math.Seq.{append_snoc}
 use Rattle.rules.specs.declared.Opening.{Opening}
 use Rattle.rules.specs.declared.Answer.{Answer}
 use Rattle.rules.specs.Rules.{slots, padded}
-use Rattle.forms.specs.declared.Number.{Number}
-use Rattle.forms.specs.declared.Form.{Form}
 use Rattle.forms.specs.declared.Entries.{Entries}
 use Rattle.forms.specs.Bytes.{cr, lf, comma}
 use Rattle.forms.specs.Number.{is_digit, all_digits, value_from, value_of, number_of}
@@ -41,7 +39,7 @@ unfolding value_from
 digits_value (Digits.one d h) = omega arith
 digits_value (Digits.more {s} r d h) = omega (arith, value_last 0 s (digit d), digits_value r)
 
-pub numeral_read : {f : List ℕ} {z : ℤ} → Numeral f z → number_of f ≡ Number.Is z
+pub numeral_read : {f : List ℕ} {z : ℤ} → Numeral f z → number_of f ≡ Some z
 numeral_read (Numeral.plain {s} r h) = cc (digits_read s (numeral s (some_digit r) (omega arith) (all_digits_lem r)), digits_value r)
 numeral_read (Numeral.negated {s} r h) = cc (minus_read s (numeral s (some_digit r) (omega arith) (all_digits_lem r)), digits_value r)
 
@@ -77,7 +75,7 @@ number_numeral (NumberText.negated {s} n) = Numeral.negated (digits_of_value s n
 
 -- ---- a field is read as its number, and what is read as a number is its field
 
-pub field_read : {f : List ℕ} {z : ℤ} → Field f z → field_of f ≡ Number.Is z
+pub field_read : {f : List ℕ} {z : ℤ} → Field f z → field_of f ≡ Some z
 field_read (Field.bare {s} {z} n) = number_field s z (numeral_read n)
 field_read (Field.enclosed {s} {z} n) = enclosed_field s z (numeral_read n)
 
@@ -85,7 +83,7 @@ text_field : {f : List ℕ} {z : ℤ} → FieldText f z → Field f z
 text_field (FieldText.bare n) = Field.bare (number_numeral n)
 text_field (FieldText.enclosed n) = Field.enclosed (number_numeral n)
 
-pub read_field : {f : List ℕ} {z : ℤ} → field_of f ≡ Number.Is z → Field f z
+pub read_field : {f : List ℕ} {z : ℤ} → field_of f ≡ Some z → Field f z
 read_field {f} {z} e = text_field (field_text f z e)
 
 -- ---- a text is read as its numbers
@@ -224,7 +222,7 @@ laid_spelled l =
       few = omega (arith, l.few, k.count);
     }
 
-pub read_spelled : (text : List ℕ) → (entries_of text).form ≡ Form.Read → Spelled text
+pub read_spelled : (text : List ℕ) → (entries_of text).form ≡ Ok tt → Spelled text
 read_spelled text e = laid_spelled (entries_laid text e)
 
 -- ---- a text is read as one opening and one list of answers

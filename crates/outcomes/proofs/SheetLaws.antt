@@ -1,9 +1,12 @@
 -- The laws of sheets: where the answers lead, and that a text has no more answers than a held search has slots.
 -- Assumes nothing.
 use Rattle.std.specs.Prelude.{ℕ, ◌+◌, ◌≤◌, ◌<◌, ◌≡◌, refl, Bool, true, false, cond, List, [], ◌∷◌, eqb, ltb, ℤ, length}
+use Rattle.std.specs.Prelude.{Option, None, Some, Ok, Err}
 use Rattle.std.proofs.Common.{◌∙◌, add-zero, arith, eq-eqb, ne_eqb}
 use Rattle.std.proofs.lemmas.Bool.{eqb-false}
+use Rattle.rules.specs.declared.Answer.{Answer}
 use Rattle.rules.specs.declared.Opening.{Opening}
+use Rattle.rules.specs.declared.Refusal.{Refusal}
 use Rattle.rules.specs.declared.Progress.{Progress}
 use Rattle.rules.specs.declared.Report.{Report}
 use Rattle.rules.specs.Rules.{slots, lower_of, upper_of, stopped_of, next_of}
@@ -11,10 +14,7 @@ use Rattle.rules.specs.Refusals.{opening_refusal}
 use Rattle.rules.specs.Search.{other_at, offer_of, answers_of, bracket_report, report_at}
 use Rattle.rules.proofs.SearchLaws.{CountedAt, counted_offer}
 use Rattle.held.specs.declared.Entered.{Entered}
-use Rattle.forms.specs.declared.Form.{Form}
 use Rattle.forms.specs.declared.Entries.{Entries}
-use Rattle.forms.specs.declared.AnswerRecord.{AnswerRecord}
-use Rattle.forms.specs.declared.OpeningRecord.{OpeningRecord}
 use Rattle.forms.specs.Text.{records_of}
 use Rattle.forms.specs.Entries.{longest_text, opening_place, answer_place, answer_of, opening_of}
 use Rattle.forms.specs.Entries.{opened, entered, refused, answers_from, records_read, entries_of}
@@ -40,22 +40,22 @@ unfolding answers_from entered refused
 answers_few e [] h = h
 answers_few e (r ∷ rs) h = go (eqb e.count slots) refl (answer_of r) (λ x v. answers_few (entered e x v) rs)
   where
-    go : (b : Bool) → eqb e.count slots ≡ b → (a : AnswerRecord) → ((x v : ℤ) → e.count + 1 ≤ slots → (answers_from (entered e x v) rs).count ≤ slots)
+    go : (b : Bool) → eqb e.count slots ≡ b → (a : Option Answer) → ((x v : ℤ) → e.count + 1 ≤ slots → (answers_from (entered e x v) rs).count ≤ slots)
         → (cond {A = Entries} b (refused 11 (e.count + 2))
-        (elim a [ AnswerRecord.Answer x v ↦ answers_from (entered e x v) rs | AnswerRecord.Malformed ↦ refused 12 (e.count + 2) ])).count
+        (elim a [ Some x ↦ answers_from (entered e x.point x.value) rs | None ↦ refused 12 (e.count + 2) ])).count
         ≤ slots
     go true f a more = omega arith
-    go false f (AnswerRecord.Answer x v) more = more x v (omega (arith, eqb-false e.count slots f))
-    go false f AnswerRecord.Malformed more = omega arith
+    go false f (Some x) more = more x.point x.value (omega (arith, eqb-false e.count slots f))
+    go false f None more = omega arith
 
 pub entries_few : (text : List ℕ) → (entries_of text).count ≤ slots
 unfolding entries_of records_read refused opened
 entries_few text = go (ltb longest_text (length text)) (records_of text)
   where
-    read : (o : OpeningRecord) (rs : List (List ℕ))
-        → (elim o as (λ x. Entries) [ OpeningRecord.Opened a ↦ answers_from (opened a) rs | OpeningRecord.Malformed ↦ refused 12 1 ]).count ≤ slots
-    read (OpeningRecord.Opened a) rs = answers_few (opened a) rs (omega arith)
-    read OpeningRecord.Malformed rs = omega arith
+    read : (o : Option Opening) (rs : List (List ℕ))
+        → (elim o as (λ x. Entries) [ Some a ↦ answers_from (opened a) rs | None ↦ refused 12 1 ]).count ≤ slots
+    read (Some a) rs = answers_few (opened a) rs (omega arith)
+    read None rs = omega arith
 
     go : (b : Bool) (rs : List (List ℕ)) → (cond {A = Entries} b (refused 10 0) (records_read rs)).count ≤ slots
     go true rs = omega arith
@@ -121,10 +121,10 @@ module _ (text : List ℕ) (e : Entries) (f : e ≡ entries_of text) where
   unfolding sheet_of
   sheet_judged = rw (← f)
 
-  pub sheet_refused : (n k : ℕ) → e.form ≡ Form.Refused n k → refused_at n k ≡ sheet_of text
+  pub sheet_refused : (r : Refusal) → e.form ≡ Err r → refused_at r.number r.place ≡ sheet_of text
   unfolding sheet_of
-  sheet_refused n k g = rw (← f, g)
+  sheet_refused r g = rw (← f, g)
 
-  pub sheet_read : e.form ≡ Form.Read → outcome_of e ≡ sheet_of text
+  pub sheet_read : e.form ≡ Ok tt → outcome_of e ≡ sheet_of text
   unfolding sheet_of
   sheet_read g = rw (← f, g)

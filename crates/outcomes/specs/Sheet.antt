@@ -1,15 +1,15 @@
 -- Trial sheets: the outcome of a text, in the order of document 01's table: its form, then the opening, then each answer in turn. A
 -- refusal names a record: 1 for the opening, k + 2 for value k.
 -- Assumes nothing.
-use Rattle.std.specs.Prelude.{ℕ, cond, List, eqb, take}
+use Rattle.std.specs.Prelude.{ℕ, cond, List, eqb, take, Result, Ok, Err}
 use Rattle.rules.specs.declared.Progress.{Progress}
+use Rattle.rules.specs.declared.Refusal.{Refusal}
 use Rattle.rules.specs.declared.Report.{Report}
 use Rattle.rules.specs.Refusals.{opening_refusal}
 use Rattle.rules.specs.Search.{report_at, answers_of}
 use Rattle.held.specs.declared.Search.{Search}
 use Rattle.held.specs.declared.Entered.{Entered}
 use Rattle.held.specs.Held.{blank}
-use Rattle.forms.specs.declared.Form.{Form}
 use Rattle.forms.specs.declared.Entries.{Entries}
 use Rattle.forms.specs.Entries.{opening_place, answer_place, entries_of}
 
@@ -41,9 +41,9 @@ outcome_of e =
     cond (eqb (opening_refusal e.opening) 0) (settled_as e (leads_to e)) (refused_at (opening_refusal e.opening) opening_place)
 
 -- the outcome of a text
-abbrev pub judged : Entries → Form → Entered
-judged e (Form.Refused number place) = refused_at number place
-judged e Form.Read = outcome_of e
+abbrev pub judged : Entries → Result (Unit {0}) Refusal → Entered
+judged e (Err r) = refused_at r.number r.place
+judged e (Ok u) = outcome_of e
 
 unfoldable pub sheet_of : List ℕ → Entered
 sheet_of text = judged (entries_of text) (entries_of text).form

@@ -1,10 +1,13 @@
 -- The claim on every sheet holds: its method is the one of the opening that it is read as, and the bound on the answers is the search's.
 -- Assumes nothing.
-use Rattle.std.specs.Prelude.{ℕ, ◌≤◌, ◌≡◌, refl, Bool, true, false, cond, List, [], ◌∷◌, map, eqb, ltb, ℤ, pos, nat_abs, length, Ok, Err}
+use Rattle.std.specs.Prelude.{ℕ, ◌≤◌, ◌≡◌, refl, Bool, true, false, cond, List, [], ◌∷◌, map, eqb, ltb, ℤ, pos, nat_abs, length}
+use Rattle.std.specs.Prelude.{Option, None, Some, Result, Ok, Err}
 use Rattle.std.proofs.Common.{sym, ap, ◌∙◌, arith, eqb-true, eq-eqb}
 use Rattle.std.proofs.Math.Nat.{max-le}
 use Rattle.integers.proofs.SignsLaws.{never}
+use Rattle.rules.specs.declared.Answer.{Answer}
 use Rattle.rules.specs.declared.Opening.{Opening}
+use Rattle.rules.specs.declared.Refusal.{Refusal}
 use Rattle.rules.specs.declared.Bracket.{Bracket}
 use Rattle.rules.specs.declared.Progress.{Progress}
 use Rattle.rules.specs.declared.Report.{Report}
@@ -14,10 +17,7 @@ use Rattle.rules.proofs.RefusalsLaws.{ranged, opened}
 use Rattle.rules.specs.Search.{answers_of, other_at, offer_of, bracket_report, report_at, is_refusal, t_of, most_of, quote_of}
 use Rattle.rules.proofs.SearchLaws.{Sound, SoundAt, sound_offer, most_slots}
 use Rattle.held.specs.declared.Entered.{Entered}
-use Rattle.forms.specs.declared.Form.{Form}
 use Rattle.forms.specs.declared.Entries.{Entries}
-use Rattle.forms.specs.declared.AnswerRecord.{AnswerRecord}
-use Rattle.forms.specs.declared.OpeningRecord.{OpeningRecord}
 use Rattle.forms.specs.Text.{records_of}
 use Rattle.forms.specs.Entries.{too_long, too_many, malformed, longest_text, whole_text, opening_place, answer_place, answer_of, opening_of, refused}
 use Rattle.forms.specs.Entries.{opened as opened_as, entered, answers_from, records_read, entries_of}
@@ -34,11 +34,11 @@ use Rattle.seasons.specs.Claims.{SheetClaim, EverySheet}
 
 -- of a text that is read
 abbrev Agrees : ℕ → Entries → Type 0
-Agrees m e = e.form ≡ Form.Read → m ≡ method_number e.opening.method
+Agrees m e = e.form ≡ Ok tt → m ≡ method_number e.opening.method
 
-abbrev is_read : Form → Bool
-is_read Form.Read = true
-is_read (Form.Refused n k) = false
+abbrev is_read : Result (Unit {0}) Refusal → Bool
+is_read (Ok u) = true
+is_read (Err r) = false
 
 refused_agrees : (m n k : ℕ) → Agrees m (refused n k)
 unfolding refused
@@ -49,21 +49,21 @@ unfolding answers_from entered
 answers_agree m e [] h = λ _. h
 answers_agree m e (r ∷ rs) h = go (eqb e.count slots) (answer_of r) (λ x v. answers_agree m (entered e x v) rs h)
   where
-    go : (b : Bool) (a : AnswerRecord) → ((x v : ℤ) → Agrees m (answers_from (entered e x v) rs))
+    go : (b : Bool) (a : Option Answer) → ((x v : ℤ) → Agrees m (answers_from (entered e x v) rs))
         → Agrees m (cond b (refused too_many (answer_place e.count))
-        (elim a [ AnswerRecord.Answer x v ↦ answers_from (entered e x v) rs | AnswerRecord.Malformed ↦ refused malformed (answer_place e.count) ]))
+        (elim a [ Some x ↦ answers_from (entered e x.point x.value) rs | None ↦ refused malformed (answer_place e.count) ]))
     go true a more = refused_agrees m too_many (answer_place e.count)
-    go false (AnswerRecord.Answer x v) more = more x v
-    go false AnswerRecord.Malformed more = refused_agrees m malformed (answer_place e.count)
+    go false (Some x) more = more x.point x.value
+    go false None more = refused_agrees m malformed (answer_place e.count)
 
 entries_agree : (text : List ℕ) → Agrees (method_written text) (entries_of text)
 unfolding method_written entries_of records_read opened_as
 entries_agree text = go (ltb longest_text (length text)) (records_of text)
   where
-    first : (o : OpeningRecord) (rs : List (List ℕ))
-        → Agrees (method_in o) (elim o [ OpeningRecord.Opened a ↦ answers_from (opened_as a) rs | OpeningRecord.Malformed ↦ refused malformed opening_place ])
-    first (OpeningRecord.Opened a) rs = answers_agree (method_number a.method) (opened_as a) rs refl
-    first OpeningRecord.Malformed rs = refused_agrees other malformed opening_place
+    first : (o : Option Opening) (rs : List (List ℕ))
+        → Agrees (method_in o) (elim o [ Some a ↦ answers_from (opened_as a) rs | None ↦ refused malformed opening_place ])
+    first (Some a) rs = answers_agree (method_number a.method) (opened_as a) rs refl
+    first None rs = refused_agrees other malformed opening_place
 
     go : (b : Bool) (rs : List (List ℕ)) → Agrees (cond b other (method_of_first rs)) (cond b (refused too_long whole_text) (records_read rs))
     go true rs = refused_agrees other too_long whole_text
@@ -124,15 +124,15 @@ sheet_keeps text = form (entries_of text).form
         kept a (leads_to e) (answers_sound e.opening Progress.Begun _ _ (opened e.opening a))
     go false f = tt
 
-    form : (f : Form) → Kept (judged e f).search.opening (judged e f).report
-    form (Form.Refused n k) = tt
-    form Form.Read = go (eqb (opening_refusal e.opening) 0) refl
+    form : (f : Result (Unit {0}) Refusal) → Kept (judged e f).search.opening (judged e f).report
+    form (Err r) = tt
+    form (Ok u) = go (eqb (opening_refusal e.opening) 0) refl
 
 -- ---- a sheet that is accepted
 
 -- it is read, and the opening of its search is the one that is read, which is accepted
 record Taken (text : List ℕ) : Type 0 where
-  form : (entries_of text).form ≡ Form.Read
+  form : (entries_of text).form ≡ Ok tt
   opening : (sheet_of text).search.opening ≡ (entries_of text).opening
   accepted : Accepted (sheet_of text).search.opening
 
@@ -251,9 +251,9 @@ written_few : (text : List ℕ) → method_written text ≤ other
 unfolding method_written
 written_few text = go (ltb longest_text (length text)) (records_of text)
   where
-    one : (r : OpeningRecord) → method_in r ≤ other
-    one (OpeningRecord.Opened o) = number_few o.method
-    one OpeningRecord.Malformed = omega arith
+    one : (r : Option Opening) → method_in r ≤ other
+    one (Some o) = number_few o.method
+    one None = omega arith
 
     go : (b : Bool) (rs : List (List ℕ)) → cond b other (method_of_first rs) ≤ other
     go true rs = omega arith

@@ -1,14 +1,13 @@
 -- The outcome of a sheet as the four numbers of a run, request 2026-10: its kind, its method as written, the answers taken and the most answers
 -- quoted. Of a refused sheet the method is the one that its first record carries, and the other two are 0.
 -- Assumes nothing.
-use Rattle.std.specs.Prelude.{ℕ, cond, List, [], ◌∷◌, ltb, ℤ, nat_abs, length, Result, Ok, Err}
+use Rattle.std.specs.Prelude.{ℕ, cond, List, [], ◌∷◌, ltb, ℤ, nat_abs, length, Option, None, Some, Result, Ok, Err}
 use Rattle.rules.specs.declared.Opening.{Opening}
 use Rattle.rules.specs.declared.Report.{Report}
 use Rattle.rules.specs.declared.Quote.{Quote}
 use Rattle.rules.specs.declared.Refusal.{Refusal}
 use Rattle.rules.specs.Refusals.{outside}
 use Rattle.rules.specs.Search.{quote_of}
-use Rattle.forms.specs.declared.OpeningRecord.{OpeningRecord}
 use Rattle.forms.specs.Text.{records_of}
 use Rattle.forms.specs.Entries.{longest_text, opening_of}
 use Rattle.outcomes.specs.Sheet.{sheet_of}
@@ -22,9 +21,9 @@ unfoldable pub method_number : ℤ → ℕ
 method_number m = cond (outside 0 2 m) other (nat_abs m)
 
 -- of a record; where its form is not an opening's, other
-abbrev pub method_in : OpeningRecord → ℕ
-method_in (OpeningRecord.Opened o) = method_number o.method
-method_in OpeningRecord.Malformed = other
+abbrev pub method_in : Option Opening → ℕ
+method_in (Some o) = method_number o.method
+method_in None = other
 
 -- of the first record; where there is none, other
 abbrev pub method_of_first : List (List ℕ) → ℕ

@@ -9,7 +9,7 @@ ghost use Rattle.rules.specs.declared.Progress.TheVariants.{Begun};
 ghost use Rattle.outcomes.specs.Sheet.{refused_at, judged};
 ghost use Rattle.outcomes.proofs.SheetLaws.{settled_by, Below};
 
-use forms::{Entries, Form};
+use forms::Entries;
 use held::{Entered, Search};
 use rules::{Opening, Report};
 
@@ -57,9 +57,8 @@ pub fn judge(e: Entries) -> Entered
     requires { e.count ≤ slots }
     ensures { result ≡ judged e e.form }
 {
-    let form = e.form;
-    if let Form::Refused { number, place } = form {
-        return refuse(number, place);
+    if let Err(refusal) = e.form {
+        return refuse(refusal.number, refusal.place);
     }
     let refused = refusals::opening_refusal(e.opening);
     if refused != 0 {

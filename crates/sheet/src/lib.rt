@@ -6,14 +6,13 @@ ghost use Rattle.printing.specs.Printed.{record_of, placed, placed_length};
 ghost use Rattle.forms.specs.Entries.{entries_of};
 ghost use Rattle.outcomes.specs.Sheet.{sheet_of};
 
-use forms::Form;
 use held::Entered;
-use rules::{Opening, Report};
+use rules::{Opening, Refusal, Report};
 
 // What is told of a text in short: whether it is read, the opening that is read, every number 0 where none is, and the report.
 #[derive(Clone, Copy)]
 pub struct Brief {
-    pub form: Form,
+    pub form: Result<(), Refusal>,
     pub opening: Opening,
     pub report: Report,
 }

@@ -1,15 +1,14 @@
 -- The method as written, by the form of a text and what the scanner finds at its beginning.
 -- Assumes nothing.
 use Rattle.std.specs.Prelude.{ℕ, ◌≡◌, Bool, true, false, cond, List, [], ◌∷◌, eqb, ltb, ℤ, length}
-use Rattle.std.specs.Prelude.{Option, None, Some}
+use Rattle.std.specs.Prelude.{Option, None, Some, Result, Ok, Err}
 use Rattle.std.proofs.Math.Path.{refl, sym, ap}
 use Rattle.std.proofs.Common.{subst, ◌∙◌, arith, ltb-false}
 use Rattle.integers.proofs.SignsLaws.{never}
+use Rattle.rules.specs.declared.Answer.{Answer}
 use Rattle.rules.specs.declared.Opening.{Opening}
+use Rattle.rules.specs.declared.Refusal.{Refusal}
 use Rattle.rules.specs.Rules.{slots}
-use Rattle.forms.specs.declared.AnswerRecord.{AnswerRecord}
-use Rattle.forms.specs.declared.OpeningRecord.{OpeningRecord}
-use Rattle.forms.specs.declared.Form.{Form}
 use Rattle.forms.specs.declared.Entries.{Entries}
 use Rattle.forms.specs.Text.{records_of}
 use Rattle.forms.specs.Entries.{too_long, too_many, malformed, longest_text, whole_text, opening_place, answer_place, answer_of, opening_of}
@@ -24,42 +23,42 @@ use Rattle.seasons.specs.Sheets.{method_number, method_in, method_of_first, meth
 
 -- ---- the form of a text tells whether its first record is an opening
 
-abbrev is_opened : OpeningRecord → Bool
-is_opened (OpeningRecord.Opened o) = true
-is_opened OpeningRecord.Malformed = false
+abbrev is_opened : Option Opening → Bool
+is_opened (Some o) = true
+is_opened None = false
 
 -- m is the method in r, which is an opening
-pub record First (m : ℕ) (r : OpeningRecord) : Type 0 where
+pub record First (m : ℕ) (r : Option Opening) : Type 0 where
   pub is : m ≡ method_in r
   pub found : is_opened r ≡ true
 
 -- what is known of m and the first record, by the form
-pub record By (m : ℕ) (r : OpeningRecord) (f : Form) : Type 0 where
+pub record By (m : ℕ) (r : Option Opening) (f : Result (Unit {0}) Refusal) : Type 0 where
   pub without : has_opening f ≡ false → other ≡ m
   pub with_one : has_opening f ≡ true → First m r
 
-answers_by : (m : ℕ) (r : OpeningRecord) (e : Entries) (rs : List (List ℕ)) → First m r → e.form ≡ Form.Read → By m r (answers_from e rs).form
+answers_by : (m : ℕ) (r : Option Opening) (e : Entries) (rs : List (List ℕ)) → First m r → e.form ≡ Ok tt → By m r (answers_from e rs).form
 unfolding answers_from entered refused
 answers_by m r e [] f h = rw h (record { without = λ g. never g; with_one = λ g. f })
 answers_by m r e (x ∷ rs) f h = go (eqb e.count slots) (answer_of x) (λ p v. answers_by m r (entered e p v) rs f h)
   where
-    later : {n : ℕ} → By m r (Form.Refused n (answer_place e.count))
+    later : {n : ℕ} → By m r (Err (record { number = n; place = answer_place e.count }))
     later = record { without = λ g. absurd (omega (arith, ltb-false 1 (answer_place e.count) g)); with_one = λ g. f }
 
-    go : (b : Bool) (a : AnswerRecord) → ((p v : ℤ) → By m r (answers_from (entered e p v) rs).form)
+    go : (b : Bool) (a : Option Answer) → ((p v : ℤ) → By m r (answers_from (entered e p v) rs).form)
         → By m r (cond {A = Entries} b (refused too_many (answer_place e.count))
-        (elim a [ AnswerRecord.Answer p v ↦ answers_from (entered e p v) rs | AnswerRecord.Malformed ↦ refused malformed (answer_place e.count) ])
+        (elim a [ Some x ↦ answers_from (entered e x.point x.value) rs | None ↦ refused malformed (answer_place e.count) ])
         ).form
     go true a more = later
-    go false (AnswerRecord.Answer p v) more = more p v
-    go false AnswerRecord.Malformed more = later
+    go false (Some x) more = more x.point x.value
+    go false None more = later
 
-opening_by : (r : OpeningRecord) (rs : List (List ℕ))
+opening_by : (r : Option Opening) (rs : List (List ℕ))
     → By (method_in r) r
-    (elim r as (λ x. Entries) [ OpeningRecord.Opened o ↦ answers_from (opened o) rs | OpeningRecord.Malformed ↦ refused malformed opening_place ]).form
+    (elim r as (λ x. Entries) [ Some o ↦ answers_from (opened o) rs | None ↦ refused malformed opening_place ]).form
 unfolding opened refused
-opening_by (OpeningRecord.Opened o) rs = answers_by (method_number o.method) (OpeningRecord.Opened o) (opened o) rs (record { is = refl; found = refl }) refl
-opening_by OpeningRecord.Malformed rs = record { without = λ g. refl; with_one = λ g. never (sym g) }
+opening_by (Some o) rs = answers_by (method_number o.method) (Some o) (opened o) rs (record { is = refl; found = refl }) refl
+opening_by None rs = record { without = λ g. refl; with_one = λ g. never (sym g) }
 
 records_by : (s : List ℕ) → By (method_of_first (records_of s)) (opening_of (first_record s)) (records_read (records_of s)).form
 unfolding records_read records_of refused

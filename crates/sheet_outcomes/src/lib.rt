@@ -8,8 +8,7 @@ ghost use Rattle.seasons.specs.Sheets.{method_number, method_written, most_quote
 ghost use Rattle.seasons.specs.Claims.{EverySheet};
 ghost use Rattle.sheet_outcomes.specs.HasOpening.{has_opening};
 
-use forms::Form;
-use rules::{Opening, Report};
+use rules::{Opening, Refusal, Report};
 use seasons::Outcome;
 
 // 0, 1 and 2 as they are, and 3 for any other number.
@@ -23,17 +22,17 @@ fn method_number(method: i32) -> u16
 }
 
 // Whether the first record of a text of this form is an opening: a text is refused for its length at place 0, and for its first record at 1.
-fn has_opening(form: Form) -> bool
+fn has_opening(form: Result<(), Refusal>) -> bool
     ensures { result ≡ has_opening form }
 {
     match form {
-        Form::Read => true,
-        Form::Refused { number: _, place } => 1 < place,
+        Ok(()) => true,
+        Err(refusal) => 1 < refusal.place,
     }
 }
 
 // The method that the first record of a text carries, or 3.
-fn method_written(text: &[u8], form: Form) -> u16
+fn method_written(text: &[u8], form: Result<(), Refusal>) -> u16
     requires { form ≡ (entries_of text.now).form }
     ensures { result ≡ method_written text.now }
 {

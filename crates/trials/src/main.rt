@@ -7,7 +7,7 @@
 ghost use Rattle.std.specs.Prelude.{ℕ, ◌≤◌, ◌<◌, ◌≡◌, ◌≢◌, length, slice_index};
 ghost use Rattle.rules.specs.Rules.{slots};
 
-use forms::{Entries, Form};
+use forms::Entries;
 use held::Search;
 use rules::{Opening, Quote, Refusal, Report};
 use std::io::{Print, Read, Stdout};
@@ -128,13 +128,8 @@ fn try_sheet(to: Stdout, text: &[u8]) {
     let report = outcome.report;
     show(to, b"sheet ", report);
     let entries = records::read_records(text);
-    let form = entries.form;
-    match form {
-        Form::Read => try_entries(to, entries),
-        Form::Refused {
-            number: _,
-            place: _,
-        } => {}
+    if entries.form.is_ok() {
+        try_entries(to, entries);
     }
 }
 

@@ -9,8 +9,8 @@ use Rattle.outcomes.specs.Sheet.{leads_to, judged}
 use Rattle.outcomes.proofs.SheetLaws.{settled_by, settled_is, Below, below, answers_counted, outcome_accepted, outcome_refused}
 use Rattle.settled.proofs.judge.Goals as goal
 
-pub returns-in-Refused : goal.returns-in-Refused
-returns-in-Refused c = c.refuse.ensures ∙ ap (judged c.args.e) (sym c.in-Refused.is)
+pub returns-in-Err : goal.returns-in-Err
+returns-in-Err c = c.refuse.ensures ∙ ap (judged c.args.e) (sym c.in-Err.is)
 
 pub returns-then-refused-ne0 : goal.returns-then-refused-ne0
 returns-then-refused-ne0 c =
