@@ -12,19 +12,17 @@ use rules::{Opening, Progress, Sample};
 // ---- one answer
 
 // The value of answer i: one of `values`, and then of `tail`.
+#[tactic(auto, unfolding(crate::specs::Answers::value_at))]
 pub fn value_at(values: &[i32], tail: &[i32], i: usize) -> i32
     requires { i < length values.now + length tail.now }
     ensures { result ≡ value_at values.now tail.now i }
 {
     let n = values.len();
-    if i < n {
-        return values[i];
-    }
-    let j = i - n;
-    tail[j]
+    if i < n { values[i] } else { tail[i - n] }
 }
 
 // Whether answer i names another point than `call`: the first `free` name none.
+#[tactic(auto, unfolding(crate::specs::Answers::other_than))]
 pub fn other_at(free: usize, points: &[i32], i: usize, call: u32) -> bool
     requires { i < free + length points.now }
     ensures { result ≡ other_than free points.now i call }
@@ -32,8 +30,7 @@ pub fn other_at(free: usize, points: &[i32], i: usize, call: u32) -> bool
     if i < free {
         return false;
     }
-    let j = i - free;
-    comparisons::differs(points[j], call)
+    i64::from(points[i - free]) != i64::from(call)
 }
 
 // ---- the first two
@@ -42,24 +39,17 @@ pub fn other_at(free: usize, points: &[i32], i: usize, call: u32) -> bool
 fn offer_second(o: Opening, u: i32, other: bool, v: i32) -> Progress
     ensures { result ≡ answered_at o (First u) other v }
 {
-    let n = refusals::answer_refusal(
-        false,
-        other,
-        refusals::too_large(v),
-        refusals::same_side(u, v),
-    );
-    if n != 0 {
-        return Progress::Refused {
-            number: n,
-            place: 1,
-        };
+    let large = refusals::too_large(v);
+    let same = refusals::same_side(u, v);
+    if let Some(number) = refusals::answer_refusal(false, other, large, same) {
+        return Progress::Refused { number, place: 1 };
     }
     let x0 = Sample {
-        point: comparisons::magnitude(o.first),
+        point: o.first.unsigned_abs(),
         value: u,
     };
     let x1 = Sample {
-        point: comparisons::magnitude(o.second),
+        point: o.second.unsigned_abs(),
         value: v,
     };
     Progress::Bracketed {
@@ -72,12 +62,8 @@ pub fn first_two(o: Opening, values: &[i32], points: &[i32], tail: &[i32]) -> Pr
     requires { length points.now ≡ length tail.now }
     ensures { Begins o values.now points.now tail.now result }
 {
-    let refused = refusals::opening_refusal(o);
-    if refused != 0 {
-        return Progress::Refused {
-            number: refused,
-            place: 0,
-        };
+    if let Some(number) = refusals::opening_refusal(o) {
+        return Progress::Refused { number, place: 0 };
     }
     let free = values.len();
     let total = free + tail.len();
@@ -85,22 +71,14 @@ pub fn first_two(o: Opening, values: &[i32], points: &[i32], tail: &[i32]) -> Pr
         return Progress::Begun;
     }
     let u = value_at(values, tail, 0);
-    let other = other_at(free, points, 0, comparisons::magnitude(o.first));
-    let n = refusals::answer_refusal(false, other, refusals::too_large(u), false);
-    if n != 0 {
-        return Progress::Refused {
-            number: n,
-            place: 0,
-        };
+    let other = other_at(free, points, 0, o.first.unsigned_abs());
+    if let Some(number) = refusals::answer_refusal(false, other, refusals::too_large(u), false) {
+        return Progress::Refused { number, place: 0 };
     }
     if total == 1 {
         return Progress::First { value: u };
     }
     let v = value_at(values, tail, 1);
-    offer_second(
-        o,
-        u,
-        other_at(free, points, 1, comparisons::magnitude(o.second)),
-        v,
-    )
+    let other = other_at(free, points, 1, o.second.unsigned_abs());
+    offer_second(o, u, other, v)
 }

@@ -2,7 +2,7 @@
 #![tactic(auto)]
 
 ghost use Rattle.std.specs.Prelude.{◌≡◌, ◌<◌};
-ghost use Rattle.rules.specs.Rules.{pair_of, start_of, gap_of, width_of, partner_of, third_of, streak_of, renewed_of, advance_of};
+ghost use Rattle.rules.specs.Rules.{pair_of, start_of, width_of, partner_of, third_of, streak_of, renewed_of, advance_of};
 ghost use Rattle.brackets.specs.Countable.{Countable};
 
 use rules::{Bracket, Sample};
@@ -35,18 +35,11 @@ pub fn start(x0: Sample, x1: Sample) -> Bracket
     }
 }
 
-// |p − q|.
-pub fn gap(p: u32, q: u32) -> u32
-    ensures { result ≡ gap_of p q }
-{
-    if p <= q { q - p } else { p - q }
-}
-
 // L = |b − c|.
 pub fn width(k: Bracket) -> u32
     ensures { result ≡ width_of k }
 {
-    gap(k.better.point, k.other.point)
+    k.better.point.abs_diff(k.other.point)
 }
 
 // ---- rules 6 and 7
@@ -70,10 +63,7 @@ fn partner(k: Bracket, x: Sample) -> Sample
 fn third(k: Bracket, x: Sample, b: Sample) -> Sample
     ensures { result ≡ third_of k x b }
 {
-    if b.point == x.point {
-        return k.previous;
-    }
-    if b.point == k.better.point {
+    if b.point == x.point || b.point == k.better.point {
         k.previous
     } else {
         k.better
@@ -85,7 +75,7 @@ fn streak_after(old: u32, new: u32, streak: u32) -> u32
     requires { streak < 4294967295 }
     ensures { result ≡ streak_of old new streak }
 {
-    if 2 * new as u64 <= old as u64 + 1 {
+    if 2 * u64::from(new) <= u64::from(old) + 1 {
         0
     } else {
         streak + 1
@@ -98,7 +88,7 @@ fn renewed(k: Bracket, x: Sample, b: Sample, c: Sample, a: Sample) -> Bracket
     ensures { result ≡ renewed_of k x b c a }
 {
     let old = width(k);
-    let new = gap(b.point, c.point);
+    let new = b.point.abs_diff(c.point);
     let streak = streak_after(old, new, k.streak);
     let d = third(k, x, b);
     Bracket {

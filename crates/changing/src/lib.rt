@@ -17,11 +17,7 @@ const NUMBER_OF_M: i32 = 1;
 fn number_under(method: i32) -> i32
     ensures { result ≡ number_under old_default method }
 {
-    if comparisons::equal(method, 0) {
-        NUMBER_OF_M
-    } else {
-        method
-    }
+    if method == 0 { NUMBER_OF_M } else { method }
 }
 
 // An opening read with 0 as M.

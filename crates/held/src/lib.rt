@@ -50,17 +50,13 @@ impl Search {
         ensures { result ≡ reopen_of self opening }
     {
         let fresh = unanswered(opening);
-        let n = refusals::opening_refusal(opening);
-        if n != 0 {
+        if let Some(number) = refusals::opening_refusal(opening) {
             return Entered {
-                report: Report::Refused {
-                    number: n,
-                    place: 0,
-                },
+                report: Report::Refused { number, place: 0 },
                 search: self,
             };
         }
-        let point = comparisons::magnitude(opening.first);
+        let point = opening.first.unsigned_abs();
         Entered {
             report: Report::Next { point, taken: 0 },
             search: fresh,

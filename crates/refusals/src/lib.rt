@@ -1,11 +1,11 @@
-// The table "Refused, by place of check" of document 01, in code: the first refusal of an opening and of an answer, by its number, or 0
-// where none applies; and whether a report is a refusal.
+// The table "Refused, by place of check" of document 01, in code: the number of the first refusal of an opening and of an answer, if one
+// applies; and whether a report is a refusal.
 #![tactic(auto)]
 
 ghost use Rattle.std.specs.Prelude.{◌≡◌, ◌||◌};
 ghost use Rattle.rules.specs.Rules.{highest};
 ghost use Rattle.rules.specs.Search.{is_refusal};
-ghost use Rattle.rules.specs.Refusals.{opening_refusal, answer_refusal, too_large, same_side, outside};
+ghost use Rattle.rules.specs.Refusals.{if_any, opening_refusal, answer_refusal, too_large, same_side, outside};
 
 use rules::{Opening, Report};
 
@@ -15,8 +15,8 @@ use rules::{Opening, Report};
 pub fn beyond(low: u32, high: u32, z: i32) -> bool
     ensures { result ≡ outside low high z }
 {
-    let n = z as i64;
-    n < low as i64 || (high as i64) < n
+    let n = i64::from(z);
+    n < i64::from(low) || i64::from(high) < n
 }
 
 // Whether either end is out of range.
@@ -26,26 +26,27 @@ fn end_beyond(first: i32, second: i32) -> bool
     beyond(0, rules::HIGHEST, first) || beyond(0, rules::HIGHEST, second)
 }
 
-// The first refusal of an opening, or 0.
-pub fn opening_refusal(o: Opening) -> u32
-    ensures { result ≡ opening_refusal o }
+// The number of the first refusal of an opening, if one applies.
+#[tactic(auto, unfolding(rules::specs::Refusals::opening_refusal))]
+pub fn opening_refusal(o: Opening) -> Option<u32>
+    ensures { result ≡ if_any (opening_refusal o) }
 {
     if beyond(0, 2, o.method) {
-        return rules::UNKNOWN_METHOD;
+        return Some(rules::UNKNOWN_METHOD);
     }
     if end_beyond(o.first, o.second) {
-        return rules::END_OUT_OF_RANGE;
+        return Some(rules::END_OUT_OF_RANGE);
     }
-    if comparisons::equal(o.first, o.second) {
-        return rules::ENDS_EQUAL;
+    if o.first == o.second {
+        return Some(rules::ENDS_EQUAL);
     }
     if beyond(1, rules::LARGEST_TOLERANCE, o.tolerance) {
-        return rules::TOLERANCE_OUT_OF_RANGE;
+        return Some(rules::TOLERANCE_OUT_OF_RANGE);
     }
     if beyond(0, rules::LARGEST_SHARE, o.share) {
-        return rules::SHARE_OUT_OF_RANGE;
+        return Some(rules::SHARE_OUT_OF_RANGE);
     }
-    0
+    None
 }
 
 // ---- an answer
@@ -54,36 +55,35 @@ pub fn opening_refusal(o: Opening) -> u32
 pub fn too_large(v: i32) -> bool
     ensures { result ≡ too_large v }
 {
-    rules::LARGEST_VALUE < comparisons::magnitude(v)
+    rules::LARGEST_VALUE < v.unsigned_abs()
 }
 
 // Whether two values are both positive or both negative.
+#[tactic(auto, unfolding(rules::specs::Refusals::same_side))]
 pub fn same_side(v: i32, w: i32) -> bool
     ensures { result ≡ same_side v w }
 {
-    if 0 < v {
-        return 0 < w;
-    }
-    if v < 0 {
-        return w < 0;
-    }
-    false
+    (0 < v && 0 < w) || (v < 0 && w < 0)
 }
 
-// The first refusal of an answer, or 0.
-pub fn answer_refusal(stopped: bool, other: bool, large: bool, same: bool) -> u32
-    ensures { result ≡ answer_refusal stopped other large same }
+// The number of the first refusal of an answer, if one applies: the four causes, in the table's order.
+#[tactic(auto, unfolding(rules::specs::Refusals::answer_refusal))]
+pub fn answer_refusal(stopped: bool, other: bool, large: bool, same: bool) -> Option<u32>
+    ensures { result ≡ if_any (answer_refusal stopped other large same) }
 {
     if stopped {
-        return rules::HAD_STOPPED;
+        return Some(rules::HAD_STOPPED);
     }
     if other {
-        return rules::NOT_CALLED_FOR;
+        return Some(rules::NOT_CALLED_FOR);
     }
     if large {
-        return rules::VALUE_OUT_OF_RANGE;
+        return Some(rules::VALUE_OUT_OF_RANGE);
     }
-    if same { rules::SAME_SIGN } else { 0 }
+    if same {
+        return Some(rules::SAME_SIGN);
+    }
+    None
 }
 
 // ---- a report
@@ -92,17 +92,5 @@ pub fn answer_refusal(stopped: bool, other: bool, large: bool, same: bool) -> u3
 pub fn is_refusal(r: Report) -> bool
     ensures { result ≡ is_refusal r }
 {
-    match r {
-        Report::Next { point: _, taken: _ } => false,
-        Report::Stop {
-            lower: _,
-            upper: _,
-            better: _,
-            taken: _,
-        } => false,
-        Report::Refused {
-            number: _,
-            place: _,
-        } => true,
-    }
+    matches!(r, Report::Refused { .. })
 }

@@ -1,12 +1,26 @@
 -- What an opening that is accepted holds, and what an answer that is not refused is.
 -- Assumes nothing.
-use Rattle.std.specs.Prelude.{ℕ, zero, suc, ◌*◌, ◌≤◌, ◌≡◌, refl, Bool, true, false, cond, ◌||◌, ltb, ℤ, pos, negsuc, nat_abs}
+use Rattle.std.specs.Prelude.{ℕ, zero, suc, ◌*◌, ◌≤◌, ◌≡◌, refl, None, Some, Bool, true, false, cond, ◌||◌, ltb, ℤ, pos, negsuc, nat_abs}
 use Rattle.std.proofs.Common.{sym, ap, ◌∙◌, arith, ltb-false, lt-ltb, le-ltb, le-leb, leb-true}
 use Rattle.integers.specs.Signs.{eq_z}
 use Rattle.integers.proofs.SignsLaws.{eq_eq_z, never, negated, product_above}
 use Rattle.rules.specs.declared.Opening.{Opening}
 use Rattle.rules.specs.Rules.{highest, largest_tolerance, largest_share, opposed}
-use Rattle.rules.specs.Refusals.{outside, same_side, opening_refusal, answer_refusal, Accepted}
+use Rattle.rules.specs.Refusals.{if_any, outside, same_side, opening_refusal, answer_refusal, Accepted}
+
+-- ---- a number of a refusal, and 0 for none
+
+pub none_is : (n : ℕ) → None ≡ if_any n → n ≡ 0
+none_is zero e = refl
+none_is (suc n) e = cc
+
+pub some_is : (n m : ℕ) → Some m ≡ if_any n → m ≡ n
+some_is zero m e = cc
+some_is (suc n) m e = cc
+
+pub some_above : (n m : ℕ) → Some m ≡ if_any n → m ≡ 0 → ⊥
+some_above zero m e f = cc
+some_above (suc n) m e f = cc
 
 -- ---- no refusal applies: each cause is absent
 

@@ -1,7 +1,7 @@
 -- The table "Refused, by place of check" of document 01: the numbers 1 to 9, and the rows of the opening and of each answer, in the order
 -- written; with number 17 of request 2026-07 among them. A refusal is its number, and 0 stands for none.
 -- Assumes nothing.
-use Rattle.std.specs.Prelude.{ℕ, ◌≡◌, Bool, cond, ◌&&◌, ◌||◌, List, [], ◌∷◌, ltb, ℤ, pos, nat_abs}
+use Rattle.std.specs.Prelude.{ℕ, zero, suc, ◌≡◌, Option, None, Some, Bool, cond, ◌&&◌, ◌||◌, List, [], ◌∷◌, ltb, ℤ, pos, nat_abs}
 use Rattle.std.specs.Int.Signed.{lt_z}
 use Rattle.integers.specs.Signs.{eq_z}
 use Rattle.rules.specs.declared.Opening.{Opening}
@@ -67,6 +67,11 @@ check b n = record { applies = b; number = n }
 abbrev pub first_applying : List Check → ℕ
 first_applying [] = 0
 first_applying (c ∷ cs) = cond c.applies c.number (first_applying cs)
+
+-- the number, if there is a refusal: code has no 0 for none
+abbrev pub if_any : ℕ → Option ℕ
+if_any zero = None
+if_any (suc n) = Some (suc n)
 
 -- ---- the causes
 

@@ -30,10 +30,6 @@ digits_leading k h =
     (lt_of_not-le (λ (l : suc (digits k) ≤ s.0). omega (arith, pow_mono l, pow-suc 2 (digits k), d.holds, s.3))) in
     omega (arith, s.1)
 
-pub allowed_few : (m : Method) → allowed m ≤ 4
-allowed_few Method.M = omega arith
-allowed_few Method.R = omega arith
-
 -- ---- the quote, from the two numbers that make it
 
 module _ (o : Opening) (a t : ℕ) (e : a ≡ allowed (method_of o)) (f : t ≡ t_of o) where

@@ -40,18 +40,11 @@ fn turns(tolerance: u32, distance: u32) -> u32
 pub fn quote(o: Opening) -> Result<Quote, Refusal>
     ensures { result ≡ quote_of o }
 {
-    let n = refusals::opening_refusal(o);
-    if n != 0 {
-        return Err(Refusal {
-            number: n,
-            place: 0,
-        });
+    if let Some(number) = refusals::opening_refusal(o) {
+        return Err(Refusal { number, place: 0 });
     }
-    let distance = brackets::gap(
-        comparisons::magnitude(o.first),
-        comparisons::magnitude(o.second),
-    );
-    let t = turns(comparisons::magnitude(o.tolerance), distance);
+    let distance = o.first.unsigned_abs().abs_diff(o.second.unsigned_abs());
+    let t = turns(o.tolerance.unsigned_abs(), distance);
     Ok(Quote {
         t,
         most: 2 + (allowed_streak(methods::method_of(o)) + 1) * t,

@@ -60,9 +60,8 @@ pub fn judge(e: Entries) -> Entered
     if let Err(refusal) = e.form {
         return refuse(refusal.number, refusal.place);
     }
-    let refused = refusals::opening_refusal(e.opening);
-    if refused != 0 {
-        return refuse(refused, 1);
+    if let Some(number) = refusals::opening_refusal(e.opening) {
+        return refuse(number, 1);
     }
     let report = told(e.opening, e.count, &e.points, &e.values);
     settle(e, report)

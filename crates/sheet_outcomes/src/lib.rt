@@ -12,13 +12,14 @@ use rules::{Opening, Refusal, Report};
 use seasons::Outcome;
 
 // 0, 1 and 2 as they are, and 3 for any other number.
+#[tactic(auto, unfolding(seasons::specs::Sheets::method_number))]
 fn method_number(method: i32) -> u16
     ensures { result ≡ method_number method }
 {
     if refusals::beyond(0, 2, method) {
         return seasons::OTHER;
     }
-    comparisons::magnitude(method) as u16
+    method.unsigned_abs() as u16
 }
 
 // Whether the first record of a text of this form is an opening: a text is refused for its length at place 0, and for its first record at 1.

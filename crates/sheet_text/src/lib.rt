@@ -29,7 +29,7 @@ fn put_integer(out: &mut [u8], at: usize, z: i32) -> usize
     requires { at + length (number_text z) ≤ length out.old }
     ensures { Puts out.old at (number_text z) out.new result }
 {
-    let n = comparisons::magnitude(z);
+    let n = z.unsigned_abs();
     if z < 0 {
         out[at] = b'-';
         return put_digits(out, at + 1, n);
@@ -62,7 +62,7 @@ fn put_tail(out: &mut [u8], at: usize, tolerance: i32, share: i32) -> usize
     requires { at + length (tail_text tolerance share) ≤ length out.old }
     ensures { Puts out.old at (tail_text tolerance share) out.new result }
 {
-    if comparisons::equal(share, 0) {
+    if share == 0 {
         return put_last(out, at, tolerance);
     }
     let last = put_field(out, at, tolerance, b',');

@@ -27,8 +27,8 @@ fn is_misplaced(lowest: i32, pitch: i32, n: usize) -> bool
     if lowest < 0 {
         return true;
     }
-    let first = comparisons::magnitude(lowest) as u64;
-    let step = comparisons::magnitude(pitch) as u64;
+    let first = u64::from(lowest.unsigned_abs());
+    let step = u64::from(pitch.unsigned_abs());
     (rules::HIGHEST as u64) < first + (n as u64 - 1) * step
 }
 
@@ -111,11 +111,6 @@ pub fn survey(lowest: i32, pitch: i32, values: &[i32], list: &mut [u32]) -> Resu
             place: 0,
         });
     }
-    write_pairs(
-        comparisons::magnitude(lowest),
-        comparisons::magnitude(pitch),
-        values,
-        list,
-    );
+    write_pairs(lowest.unsigned_abs(), pitch.unsigned_abs(), values, list);
     Ok(n as u32)
 }

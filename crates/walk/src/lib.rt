@@ -15,23 +15,13 @@ use rules::{Bracket, Opening, Progress, Report, Sample};
 fn stop_report(k: Bracket) -> Report
     ensures { result ≡ Stop (lower_of k) (upper_of k) k.better.point k.taken }
 {
-    let taken = k.taken;
     let b = k.better.point;
     let c = k.other.point;
-    if b <= c {
-        Report::Stop {
-            lower: b,
-            upper: c,
-            better: b,
-            taken,
-        }
-    } else {
-        Report::Stop {
-            lower: c,
-            upper: b,
-            better: b,
-            taken,
-        }
+    Report::Stop {
+        lower: b.min(c),
+        upper: b.max(c),
+        better: b,
+        taken: k.taken,
     }
 }
 
@@ -61,15 +51,15 @@ fn walk_on(o: Opening, bracket: Bracket, values: &[i32], points: &[i32], tail: &
             return Report::Next { point, taken };
         }
         let v = answers::value_at(values, tail, i);
-        let n = refusals::answer_refusal(
+        let other = answers::other_at(free, points, i, point);
+        if let Some(number) = refusals::answer_refusal(
             false,
-            answers::other_at(free, points, i, point),
+            other,
             refusals::too_large(v),
             false,
-        );
-        if n != 0 {
+        ) {
             return Report::Refused {
-                number: n,
+                number,
                 place: taken,
             };
         }
@@ -83,16 +73,15 @@ pub fn follow(o: Opening, values: &[i32], points: &[i32], tail: &[i32]) -> Repor
     requires { length points.now ≡ length tail.now }
     ensures { result ≡ report_at o (answers_of o (progress_of o values.now) points.now tail.now) }
 {
-    let p = answers::first_two(o, values, points, tail);
-    match p {
-        Progress::Begun => {
-            let point = comparisons::magnitude(o.first);
-            Report::Next { point, taken: 0 }
-        }
-        Progress::First { value: _ } => {
-            let point = comparisons::magnitude(o.second);
-            Report::Next { point, taken: 1 }
-        }
+    match answers::first_two(o, values, points, tail) {
+        Progress::Begun => Report::Next {
+            point: o.first.unsigned_abs(),
+            taken: 0,
+        },
+        Progress::First { .. } => Report::Next {
+            point: o.second.unsigned_abs(),
+            taken: 1,
+        },
         Progress::Bracketed { bracket } => walk_on(o, bracket, values, points, tail),
         Progress::Refused { number, place } => Report::Refused { number, place },
     }

@@ -4,6 +4,7 @@ use Rattle.std.proofs.Common.{ℕ, ◌≡◌, length, take, refl, sym, ap, subst
 use Rattle.rules.specs.declared.Progress.{Progress}
 use Rattle.rules.specs.Rules.{slots}
 use Rattle.rules.specs.Refusals.{opening_refusal}
+use Rattle.rules.proofs.RefusalsLaws.{none_is, some_is, some_above}
 use Rattle.rules.proofs.SearchLaws.{CountedAt}
 use Rattle.outcomes.specs.Sheet.{leads_to, judged}
 use Rattle.outcomes.proofs.SheetLaws.{settled_by, settled_is, Below, below, answers_counted, outcome_accepted, outcome_refused}
@@ -12,18 +13,17 @@ use Rattle.settled.proofs.judge.Goals as goal
 pub returns-in-Err : goal.returns-in-Err
 returns-in-Err c = c.refuse.ensures ∙ ap (judged c.args.e) (sym c.in-Err.is)
 
-pub returns-then-refused-ne0 : goal.returns-then-refused-ne0
-returns-then-refused-ne0 c =
-    let e = c.args.e in
-    let n = c.opening_refusal-refused in
-    c.refuse-then-refused-ne0.ensures
-    ∙ outcome_refused e n.result n.ensures (λ z. absurd (omega (arith, z)))
-    ∙ ap (judged e) (sym c.in_default.is)
+pub returns-in-Some : goal.returns-in-Some
+returns-in-Some c =
+    let f = c.in-Some.ensures in
+    c.refuse-in-Some.ensures
+    ∙ outcome_refused c.args.e c.in-Some.number (some_is _ _ f) (some_above _ _ f)
+    ∙ ap (judged c.args.e) (sym c.in_default.is)
 
 -- the answers are walked from an opening that no refusal meets
 pub told-report-requires : goal.told-report-requires
 told-report-requires c =
-    let accepted : opening_refusal c.args.e.opening ≡ 0 = omega (arith, c.opening_refusal-refused.ensures) in
+    let accepted : opening_refusal c.args.e.opening ≡ 0 = none_is _ c.in_default-opening_refusal.ensures in
     search (accepted, rules)
 
 pub settle-requires : goal.settle-requires
@@ -42,7 +42,7 @@ settle-requires c =
 pub returns : goal.returns
 returns c =
     let e = c.args.e in
-    let accepted : opening_refusal e.opening ≡ 0 = omega (arith, c.opening_refusal-refused.ensures) in
+    let accepted : opening_refusal e.opening ≡ 0 = none_is _ c.in_default-opening_refusal.ensures in
     c.settle.ensures
     ∙ ap (settled_by e) c.told-report.ensures
     ∙ settled_is e (leads_to e)

@@ -21,23 +21,23 @@ above {z} f e t = number_above z (rw (read f) at t) ∙ ap decimal_of (sym (rw (
 
 -- there is room for the minus
 pub bounds-out-at : goal.bounds-out-at
-bounds-out-at c = let signed = below c.ranges.z c.magnitude-n.ensures c.if-z-lt0.true in omega (arith, c.requires, ap length signed)
+bounds-out-at c = let signed = below c.ranges.z c.unsigned_abs-n.ensures.value c.if-z-lt0.true in omega (arith, c.requires, ap length signed)
 
 pub put_digits-requires : goal.put_digits-requires
 put_digits-requires c =
-    let text = below c.ranges.z c.magnitude-n.ensures c.if-z-lt0.true in
+    let text = below c.ranges.z c.unsigned_abs-n.ensures.value c.if-z-lt0.true in
     omega (arith, c.requires, ap length text, length-set c.args.out.now c.args.at minus)
 
 -- the minus, and the digits behind it
 pub returns-then-z-lt0 : goal.returns-then-z-lt0
 returns-then-z-lt0 c =
     let s = c.args in
-    let whole = below c.ranges.z c.magnitude-n.ensures c.if-z-lt0.true in
+    let whole = below c.ranges.z c.unsigned_abs-n.ensures.value c.if-z-lt0.true in
     let room : s.at < length s.out.now = omega (arith, c.requires, ap length whole) in
     in_words (puts_more (puts_byte s.out.now s.at minus room) c.put_digits.ensures) (sym whole) refl refl
 
 pub put_digits-requires-2 : goal.put_digits-requires-2
-put_digits-requires-2 c = omega (arith, c.requires, ap length (above c.ranges.z c.magnitude-n.ensures c.if-z-lt0.false))
+put_digits-requires-2 c = omega (arith, c.requires, ap length (above c.ranges.z c.unsigned_abs-n.ensures.value c.if-z-lt0.false))
 
 pub returns : goal.returns
-returns c = in_words c.put_digits-2.ensures (sym (above c.ranges.z c.magnitude-n.ensures c.if-z-lt0.false)) refl refl
+returns c = in_words c.put_digits-2.ensures (sym (above c.ranges.z c.unsigned_abs-n.ensures.value c.if-z-lt0.false)) refl refl

@@ -21,6 +21,6 @@ returns-then-lowest-lt0 c =
 
 pub returns : goal.returns
 returns c =
-    rw (c.magnitude-step.ensures, c.magnitude-first.ensures, read c.ranges.pitch, read c.ranges.lowest)
+    rw (c.from-step.ensures, c.from-first.ensures, c.unsigned_abs-2.ensures.value, c.unsigned_abs.ensures.value, read c.ranges.pitch, read c.ranges.lowest)
     (sym (by_ends _ _ _ (omega arith) (omega arith) (rw (read c.ranges.pitch) at c.if-pitch-lt1.false)
     ∙ simp (rw (read c.ranges.lowest) at c.if-lowest-lt0.false)))

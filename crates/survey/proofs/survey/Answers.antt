@@ -53,7 +53,7 @@ write_pairs-requires-clause-surveyable c =
     let p = going c.args.values.now c.ranges.lowest c.ranges.pitch c.check.ensures c.in_ok-check.was in
     let placed = surveyable c.args.lowest c.args.pitch (length c.args.values.now) p.placed in
     let numbers = in_numbers _ _ _ placed in
-    rw (as_number c.ranges.lowest c.magnitude.ensures numbers.first, as_number c.ranges.pitch c.magnitude-2.ensures numbers.step) placed
+    rw (as_number c.ranges.lowest c.unsigned_abs.ensures.value numbers.first, as_number c.ranges.pitch c.unsigned_abs-2.ensures.value numbers.step) placed
 
 pub overflow_cast-result : goal.overflow_cast-result
 overflow_cast-result c =
@@ -71,7 +71,7 @@ returns c =
     let t = says_found _ _ vs (length list) p.placed p.in_range enough in
     let written = c.write_pairs.ensures
     ∙ ap₂ (λ (a q : ℤ). lower_points a q (crossings_of vs) ++ drop (length (crossings_of vs)) list)
-    (as_number c.ranges.lowest c.magnitude.ensures numbers.first) (as_number c.ranges.pitch c.magnitude-2.ensures numbers.step) in
+    (as_number c.ranges.lowest c.unsigned_abs.ensures.value numbers.first) (as_number c.ranges.pitch c.unsigned_abs-2.ensures.value numbers.step) in
     record {
       value = ap Ok c.count_pairs-n.ensures ∙ sym t;
       list_after = written ∙ sym (list_after _ _ _ _ _ t);

@@ -1,2 +1,0 @@
--- The modules of `proofs/`.
-pub mod Laws
