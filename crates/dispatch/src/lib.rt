@@ -91,7 +91,7 @@ pub fn turn(d: Dispatcher) -> Option<u32>
 pub fn report(d: Dispatcher, dryer: u32) -> Report
     ensures { result ≡ dryer_report d dryer }
 {
-    let Some(search) = turns::search_at(d, dryer) else {
+    let Some(search) = turns::found_at(d, dryer) else {
         return Report::Refused {
             number: rules::NO_SUCH_DRYER,
             place: 0,
@@ -104,7 +104,7 @@ pub fn report(d: Dispatcher, dryer: u32) -> Report
 pub fn open(d: Dispatcher, dryer: u32, opening: Opening) -> Dispatched
     ensures { result ≡ opening_at d dryer opening }
 {
-    let Some(search) = turns::search_at(d, dryer) else {
+    let Some(search) = turns::found_at(d, dryer) else {
         return refused(d, rules::NO_SUCH_DRYER);
     };
     if turns::goes_on(&search) {
@@ -118,7 +118,7 @@ pub fn open(d: Dispatcher, dryer: u32, opening: Opening) -> Dispatched
 pub fn enter(d: Dispatcher, dryer: u32, answer: Answer) -> Dispatched
     ensures { result ≡ answer_at d dryer answer }
 {
-    let Some(search) = turns::search_at(d, dryer) else {
+    let Some(search) = turns::found_at(d, dryer) else {
         return refused(d, rules::NO_SUCH_DRYER);
     };
     if turns::turn(&d) != Some(dryer) {

@@ -16,7 +16,7 @@ pub fn goes_on(search: &Search) -> bool
 }
 
 // The search at a dryer, where there is such a dryer.
-pub fn search_at(d: Dispatcher, dryer: u32) -> Option<Search>
+pub fn found_at(d: Dispatcher, dryer: u32) -> Option<Search>
     ensures { result ≡ found_at d dryer }
 {
     d.searches.get(dryer as usize).copied()
