@@ -74,14 +74,14 @@ pub fn follow(o: Opening, values: &[i32], points: &[i32], tail: &[i32]) -> Repor
     ensures { result ≡ report_at o (answers_of o (progress_of o values.now) points.now tail.now) }
 {
     match answers::first_two(o, values, points, tail) {
-        Progress::Begun => Report::Next {
-            point: o.first.unsigned_abs(),
-            taken: 0,
-        },
-        Progress::First { .. } => Report::Next {
-            point: o.second.unsigned_abs(),
-            taken: 1,
-        },
+        Progress::Begun => {
+            let point = o.first.unsigned_abs();
+            Report::Next { point, taken: 0 }
+        }
+        Progress::First { .. } => {
+            let point = o.second.unsigned_abs();
+            Report::Next { point, taken: 1 }
+        }
         Progress::Bracketed { bracket } => walk_on(o, bracket, values, points, tail),
         Progress::Refused { number, place } => Report::Refused { number, place },
     }

@@ -12,14 +12,14 @@ unfolding report_at
 returns-in-Begun c =
     let b = c.in-Begun.ensures in
     let f : FitsSigned w32 c.args.o.first = search rules in
-    rw (c.unsigned_abs.ensures.value, read f) (told_end _ _ _ _ 2 Progress.Begun b.led c.requires b.ended)
+    rw (c.unsigned_abs-point.ensures.value, read f) (told_end _ _ _ _ 2 Progress.Begun b.led c.requires b.ended)
 
 pub returns-in-First : goal.returns-in-First
 unfolding report_at
 returns-in-First c =
     let b = c.in-First.ensures in
     let f : FitsSigned w32 c.args.o.second = search rules in
-    rw (c.unsigned_abs-in-First.ensures.value, read f) (told_end _ _ _ _ 2 (Progress.First c.in-First.value) b.led c.requires b.ended)
+    rw (c.unsigned_abs-point-in-First.ensures.value, read f) (told_end _ _ _ _ 2 (Progress.First c.in-First.value) b.led c.requires b.ended)
 
 pub returns-in-Refused : goal.returns-in-Refused
 returns-in-Refused c = told_refused _ _ _ _ 2 _ _ c.in-Refused.ensures.led
