@@ -16,7 +16,7 @@ fn booked_as(method: u16) -> usize
     method.min(seasons::OTHER) as usize
 }
 
-// A tally of no outcome.
+// A tally of no outcome. No `Default` is derived: crate seasons has no function, and one there would be proved anew at each of its must-fail edits.
 fn no_tally() -> Tally
     ensures { result ≡ no_tally }
 {

@@ -183,7 +183,8 @@ pub quoted_few : (o : Opening) → most_quoted (quote_of o) ≤ slots
 unfolding quote_of
 quoted_few o = go (eqb (opening_refusal o) 0) refl
   where
-    go : (b : Bool) → eqb (opening_refusal o) 0 ≡ b → most_quoted (cond b (Ok (record { t = t_of o; most = most_of o })) (Err (refusal (opening_refusal o) 0))) ≤ slots
+    go : (b : Bool) → eqb (opening_refusal o) 0 ≡ b
+        → most_quoted (cond b (Ok (record { t = t_of o; most = most_of o })) (Err (refusal (opening_refusal o) 0))) ≤ slots
     go true e = most_slots o (opened o (record { accepted = eqb-true _ _ e }))
     go false e = omega arith
 

@@ -8,10 +8,10 @@ pub returns-then-o-gt-UNFINISHED : goal.returns-then-o-gt-UNFINISHED
 returns-then-o-gt-UNFINISHED c = enter_refused c.args.tally c.args.o c.if-o-gt-UNFINISHED.true
 
 pub returns-then-o-eq-STOPPED : goal.returns-then-o-eq-STOPPED
-returns-then-o-eq-STOPPED c =
-    rw (c.max.ensures, c.from.ensures, c.from-2.ensures, c.from-3.ensures) (enter_stopped c.args.tally c.args.o c.if-o-eq-STOPPED.true)
+returns-then-o-eq-STOPPED c = let entered = enter_stopped c.args.tally c.args.o c.if-o-eq-STOPPED.true in cc
 
 pub returns : goal.returns
 returns c =
     let one : c.args.o.kind ≡ 1 = omega arith in
-    rw (c.max.ensures, c.from.ensures, c.from-2.ensures, c.from-3.ensures) (enter_unfinished c.args.tally c.args.o one)
+    let entered = enter_unfinished c.args.tally c.args.o one in
+    cc
