@@ -32,7 +32,9 @@ fn has_opening(form: Result<(), Refusal>) -> bool
     }
 }
 
-// The method that the first record of a text carries, or 3.
+// The method that the first record of a text carries, or 3. Out of line, so that what it scans takes no stack while the reader runs: the
+// interface for C promises a limit.
+#[inline(never)]
 fn method_written(text: &[u8], form: Result<(), Refusal>) -> u16
     requires { form ≡ (entries_of text.now).form }
     ensures { result ≡ method_written text.now }
