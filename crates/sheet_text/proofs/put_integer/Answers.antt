@@ -26,7 +26,7 @@ bounds-out-at c = let signed = below c.ranges.z c.magnitude-n.ensures c.if-z-lt0
 pub put_digits-requires : goal.put_digits-requires
 put_digits-requires c =
     let text = below c.ranges.z c.magnitude-n.ensures c.if-z-lt0.true in
-    omega (arith, c.requires, ap length text, length-set c.args.out.now c.args.at minus)
+    rw length-set (omega (arith, c.requires, ap length text))
 
 -- the minus, and the digits behind it
 pub returns-then-z-lt0 : goal.returns-then-z-lt0
