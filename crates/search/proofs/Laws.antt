@@ -11,7 +11,6 @@ use Rattle.std.specs.Prelude.{Ok}
 use Rattle.integers.specs.Digits.{digits}
 use Rattle.integers.proofs.DigitsLaws.{digits_least}
 use Rattle.rules.specs.declared.Opening.{Opening}
-use Rattle.rules.specs.declared.Method.{Method}
 use Rattle.rules.specs.Rules.{slots, method_of, allowed}
 use Rattle.rules.specs.Refusals.{opening_refusal}
 use Rattle.rules.proofs.RefusalsLaws.{Opened}
