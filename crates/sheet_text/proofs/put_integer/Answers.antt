@@ -25,13 +25,8 @@ bounds-out-at c = let signed = below c.ranges.z c.unsigned_abs-n.ensures.value c
 
 pub put_digits-requires : goal.put_digits-requires
 put_digits-requires c =
-<<<<<<< HEAD
     let text = below c.ranges.z c.unsigned_abs-n.ensures.value c.if-z-lt0.true in
-    omega (arith, c.requires, ap length text, length-set c.args.out.now c.args.at minus)
-=======
-    let text = below c.ranges.z c.magnitude-n.ensures c.if-z-lt0.true in
     rw length-set (omega (arith, c.requires, ap length text))
->>>>>>> 6653238158ff39b2bf2ec523fd09aa0aa418c66e
 
 -- the minus, and the digits behind it
 pub returns-then-z-lt0 : goal.returns-then-z-lt0
