@@ -17,10 +17,10 @@ const MOST_DIGITS: usize = 5;
 pub fn byte_at(s: &[u8], at: usize) -> u8
     ensures { result ≡ get_or s.now at 0 }
 {
-    if at < s.len() { s[at] } else { 0 }
+    s.get(at).copied().unwrap_or(0)
 }
 
-// The digit at a place.
+// The digit at a place, where one stands.
 fn digit_at(s: &[u8], at: usize) -> Option<u32>
     ensures { result ≡ digit_at s.now at }
 {
@@ -37,7 +37,8 @@ fn with_sign(negative: bool, n: u32) -> i32
     requires { n ≤ 99999 }
     ensures { result ≡ signed negative n }
 {
-    if negative { 0 - (n as i32) } else { n as i32 }
+    let n = n as i32;
+    if negative { -n } else { n }
 }
 
 // 1 to 5 digits, with a sign. A sixth is left to whoever asks what follows: it is no comma, no quote and no end.
