@@ -9,8 +9,8 @@ ghost use Rattle.sheet_text.specs.Pieces.{field_text, last_text, tail_text, open
 
 use rules::Opening;
 
-// The digits of a number: those of its tenth part, and the last. By lines::put_number they would go into a line of their own first, and be
-// copied from there: no plainer, and a copy more for each number.
+// The digits of a number: those of its tenth part, and the last. By lines::put_number, into a line that is then
+// copied, each number took 45 instructions more, and a line more would lie on the stack of busdekker_write.
 fn put_digits(out: &mut [u8], at: usize, n: u32) -> usize
     requires { at + length (decimal_of n) ≤ length out.old }
     ensures { Puts out.old at (decimal_of n) out.new result }
