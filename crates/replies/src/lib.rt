@@ -10,6 +10,8 @@ use input::Filled;
 pub const ENOUGH: usize = forms::LONGEST_TEXT + 1;
 
 // What is replied to a sheet: the record of its report, the sheet cleaned, or the old sheet changed over.
+// An enum, no closure that makes the reply: `write_reply` and programs::run promise what each of the three is, and of a closure they could only
+// promise what its maker says, which is a program's main, and a main has no contract.
 #[derive(Clone, Copy)]
 pub enum Reply {
     Record,
