@@ -275,9 +275,6 @@ module _ (lowest pitch : ℤ) (vs : List ℤ) (room : ℕ) where
 -- ---- what is said before a pair is looked for
 
 module _ (lowest pitch : ℤ) (vs : List ℤ) where
-  pub check_misplaced : is_misplaced lowest pitch (length vs) ≡ true → Err (refusal misplaced_survey 0) ≡ checked_of lowest pitch vs
-  check_misplaced e = simp e
-
   module _ (p : is_misplaced lowest pitch (length vs) ≡ false) where
     pub check_large : (i : ℕ) → position too_large vs ≡ Some i → Err (refusal value_out_of_range i) ≡ checked_of lowest pitch vs
     check_large i e = simp p (go (ltb (large_at vs) (length vs)) (sym (large_found vs) ∙ e))

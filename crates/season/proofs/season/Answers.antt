@@ -13,9 +13,6 @@ returns-then-is_misshapen c =
 pub overflow_cast-count : goal.overflow_cast-count
 overflow_cast-count c = omega (arith, (shaped (length c.args.outcomes.now) (sym c.is_misshapen.ensures ∙ c.if-is_misshapen.false)).few)
 
-pub tallies_of-tallies-requires : goal.tallies_of-tallies-requires
-tallies_of-tallies-requires c = sym c.is_misshapen.ensures ∙ c.if-is_misshapen.false
-
 pub returns : goal.returns
 returns c =
     let going = sym c.is_misshapen.ensures ∙ c.if-is_misshapen.false in

@@ -8,16 +8,13 @@ use mir.Val.{SFits, to_z, of_z}
 use Rattle.integers.proofs.Bounds.{read}
 use Rattle.rules.specs.Refusals.{too_large}
 use Rattle.surveying.specs.Survey.{is_misplaced}
-use Rattle.surveying.proofs.SurveyLaws.{surveyable, check_misplaced, check_large, check_passed}
+use Rattle.surveying.proofs.SurveyLaws.{surveyable, check_large, check_passed}
 use Rattle.survey.proofs.check.Goals as goal
 
 -- the first test is that of the numbers as they were passed
 tested : {lowest pitch : ℤ} (n : ℕ) {b : Bool} → SFits w32 lowest → SFits w32 pitch
     → b ≡ is_misplaced (to_z w32 (of_z w32 lowest)) (to_z w32 (of_z w32 pitch)) n → is_misplaced lowest pitch n ≡ b
 tested n f g e = sym (e ∙ ap₂ (λ (a q : ℤ). is_misplaced a q n) (read f) (read g))
-
-pub returns-then-is_misplaced : goal.returns-then-is_misplaced
-returns-then-is_misplaced c = check_misplaced _ _ _ (tested (length c.args.values.now) c.ranges.lowest c.ranges.pitch c.if-is_misplaced.ensures)
 
 pub overflow_cast-result : goal.overflow_cast-result
 overflow_cast-result c =
