@@ -1,7 +1,8 @@
 -- `readout::put_words` meets its contract: the bytes of the next word are the first of those still to come, and there is room for
 -- all of these.
 -- Assumes nothing.
-use Rattle.std.proofs.Common.{ℕ, ◌≡◌, ◌+◌, ◌/◌, ◌%◌, ◌<◌, ap, ◌∙◌, sym, arith, List, [], ◌∷◌, ◌++◌, append_assoc, append-nil, add-one, length, get_or, drop, drop-cons, length-append, drop_of_length-le}
+use Rattle.std.proofs.Common.{ℕ, ◌≡◌, ◌+◌, ◌/◌, ◌%◌, ◌<◌, ap, ◌∙◌, sym, arith, List, [], ◌∷◌, ◌++◌, append_assoc, append-nil}
+use Rattle.std.proofs.Common.{add-one, length, get_or, drop, drop-cons, length-append, drop_of_length-le}
 use Rattle.registers.specs.Exchange.{word_bytes}
 use Rattle.registers.proofs.ExchangeLaws.{word_bytes_length}
 use Rattle.readout.proofs.put_words.Goals as goal
