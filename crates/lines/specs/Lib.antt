@@ -1,3 +1,4 @@
 -- The modules of `specs/`.
+pub mod Bytes
 pub mod Decimal
 pub mod Line

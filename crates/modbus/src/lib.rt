@@ -6,10 +6,11 @@ ghost use Rattle.std.specs.Prelude.{◌≡◌, ◌↔◌, ◌+◌, ◌<◌, [], 
 ghost use Rattle.registers.specs.Exchange.{word_at, signed_of, read_fault, top_bit_set, exception_reply, echo_reply};
 ghost use Rattle.registers.specs.Inner.{exception_number, form_fault, Writable};
 
-use arrayvec::ArrayVec;
+use lines::Bytes;
 use registers::Exception;
 
-pub type Reply = ArrayVec<u8, { registers::LONGEST_REPLY }>;
+// A reply: its bytes, of which there is room for those of the longest.
+pub type Reply = Bytes<{ registers::LONGEST_REPLY }>;
 
 // ---- words
 
@@ -73,6 +74,26 @@ pub fn check_write(request: &[u8]) -> Result<(), Exception>
     Ok(())
 }
 
+// The check of a read as a number: its exception's, or 0.
+pub fn read_fault(request: &[u8]) -> u8
+    ensures { result ≡ read_fault request.now }
+{
+    match check_read(request) {
+        Ok(()) => 0,
+        Err(exception) => exception as u8,
+    }
+}
+
+// The check of a write as a number: its exception's, or 0.
+pub fn form_fault(request: &[u8]) -> u8
+    ensures { result ≡ form_fault request.now }
+{
+    match check_write(request) {
+        Ok(()) => 0,
+        Err(exception) => exception as u8,
+    }
+}
+
 // ---- replies
 
 // A function with its top bit set.
@@ -93,12 +114,12 @@ pub fn no_reply() -> Reply
 }
 
 // The function with its top bit set, and the exception's number.
-pub fn exception(function: u8, exception: Exception) -> Reply
-    ensures { result.items ≡ exception_reply function (exception_number exception) }
+pub fn exception(function: u8, fault: u8) -> Reply
+    ensures { result.items ≡ exception_reply function fault }
 {
     let mut reply = Reply::new();
-    reply.push(with_top_bit(function));
-    reply.push(exception as u8);
+    reply.put_byte(with_top_bit(function));
+    reply.put_byte(fault);
     reply
 }
 
@@ -108,6 +129,6 @@ pub fn echo(request: &[u8]) -> Reply
     ensures { result.items ≡ echo_reply request.now }
 {
     let mut reply = Reply::new();
-    reply.try_extend_from_slice(request).unwrap();
+    reply.put_text(request);
     reply
 }

@@ -14,7 +14,7 @@ use registers::{Exception, Exchanged};
 use rules::Refusal;
 
 // A reply, and beside it the search as it then is.
-#[derive(Drop)]
+#[derive(Clone, Copy)]
 struct Told {
     reply: Reply,
     search: Search,
@@ -27,7 +27,7 @@ fn write(search: Search, point: u16, request: &[u8]) -> Told
 {
     if let Err(exception) = modbus::check_write(request) {
         return Told {
-            reply: modbus::exception(registers::WRITE_SINGLE, exception),
+            reply: modbus::exception(registers::WRITE_SINGLE, exception as u8),
             search,
         };
     }
@@ -36,7 +36,7 @@ fn write(search: Search, point: u16, request: &[u8]) -> Told
     let report = entered.report;
     if refusals::is_refusal(report) {
         return Told {
-            reply: modbus::exception(registers::WRITE_SINGLE, Exception::IllegalValue),
+            reply: modbus::exception(registers::WRITE_SINGLE, Exception::IllegalValue as u8),
             search,
         };
     }
@@ -61,7 +61,7 @@ fn respond(search: Search, request: &[u8]) -> Told
     let report = search.report();
     if refusals::is_refusal(report) {
         return Told {
-            reply: modbus::exception(function, Exception::DeviceFailure),
+            reply: modbus::exception(function, Exception::DeviceFailure as u8),
             search,
         };
     }
@@ -76,7 +76,7 @@ fn respond(search: Search, request: &[u8]) -> Told
         return write(search, words[registers::POINT_REGISTER], request);
     }
     Told {
-        reply: modbus::exception(function, Exception::IllegalFunction),
+        reply: modbus::exception(function, Exception::IllegalFunction as u8),
         search,
     }
 }
@@ -101,7 +101,8 @@ pub fn panel(search: Search, request: &[u8], reply: &mut [u8]) -> Exchanged
         };
     }
     let told = respond(search, request);
-    let length = printing::place_text(told.reply.as_slice(), reply) as u32;
+    let made = told.reply;
+    let length = printing::place_text(made.as_slice(), reply) as u32;
     Exchanged {
         replied: Ok(length),
         search: told.search,

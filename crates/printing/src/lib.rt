@@ -16,9 +16,9 @@ fn line_with(word: &[u8], numbers: &[u32]) -> Line
     ensures { result.items ≡ record_with word.now numbers.now }
 {
     let mut line = Line::new();
-    line.try_extend_from_slice(word).unwrap();
+    line.put_text(word);
     lines::put_fields(&mut line, numbers);
-    line.try_extend_from_slice(b"\r\n").unwrap();
+    line.put_text(b"\r\n");
     line
 }
 

@@ -3,7 +3,6 @@
 #![tactic(auto)]
 
 ghost use Rattle.std.specs.Prelude.{◌≡◌, ◌+◌, ◌*◌, ◌≤◌, ◌++◌, length};
-ghost use Rattle.arrayvec.specs.ArrayVec.{array_vec_len};
 ghost use Rattle.held.proofs.HeldLaws.{WithinLimits};
 ghost use Rattle.registers.specs.Registers.{registers_at};
 ghost use Rattle.registers.specs.Exchange.{word_bytes, read_reply, longest_reply};
@@ -50,11 +49,11 @@ pub fn registers_at(report: Report) -> [u16; registers::REGISTERS]
 
 // Puts words to the end of a reply, each the high byte first.
 fn put_words(reply: &mut Reply, words: &[u16])
-    requires { array_vec_len reply.old + 2 * length words.now ≤ longest_reply }
+    requires { length reply.old.items + 2 * length words.now ≤ longest_reply }
     ensures { reply.new.items ≡ reply.old.items ++ word_bytes words.now }
 {
     for word in words {
-        reply.try_extend_from_slice(&word.to_be_bytes()).unwrap();
+        reply.put_text(&word.to_be_bytes());
     }
 }
 
@@ -67,8 +66,8 @@ fn read_words(words: [u16; registers::REGISTERS], request: &[u8]) -> Reply
     let quantity = modbus::word_at(request, 3) as usize;
     let count = (2 * quantity) as u8;
     let mut reply = Reply::new();
-    reply.push(registers::READ_HOLDING);
-    reply.push(count);
+    reply.put_byte(registers::READ_HOLDING);
+    reply.put_byte(count);
     put_words(&mut reply, &words[address..address + quantity]);
     reply
 }
@@ -79,6 +78,6 @@ pub fn read(words: [u16; registers::REGISTERS], request: &[u8]) -> Reply
 {
     match modbus::check_read(request) {
         Ok(()) => read_words(words, request),
-        Err(exception) => modbus::exception(registers::READ_HOLDING, exception),
+        Err(exception) => modbus::exception(registers::READ_HOLDING, exception as u8),
     }
 }

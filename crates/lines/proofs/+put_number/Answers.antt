@@ -18,18 +18,18 @@ pub put_number-requires : goal.put_number-requires
 put_number-requires t c =
     (omega arith, omega (arith, simp length-append at (ap length (decimal_more c.args.n (omega arith)))))
 
-pub push-requires : goal.push-requires
-push-requires t c =
+pub put_byte-requires : goal.put_byte-requires
+put_byte-requires t c =
     let old = c.args.line.now.items in
-    let line = c.if-n-ge10.line.items in
-    elim c.if-n-ge10.branch [
-      | then-n-ge10 w ↦ omega (arith, simp length-append at (ap length (last_of_more c.args.n old line w.if-n-ge10.true (cc))))
-      | else-n-ge10 w ↦ omega (arith, simp length-append at (ap length (last_of_one c.args.n old line w.if-n-ge10.false (cc))))
+    let joined = c.if-n-ge10 in
+    elim joined.branch [
+      | then-n-ge10 w ↦ omega (arith, simp length-append at (ap length (last_of_more c.args.n old joined.line.items (omega arith) (cc))))
+      | else-n-ge10 w ↦ omega (arith, simp length-append at (ap length (last_of_one c.args.n old joined.line.items (omega arith) (cc))))
     ]
 
 pub returns : goal.returns
 returns t c =
     elim c.if-n-ge10.branch [
-      | then-n-ge10 w ↦ c.push.ensures.items ∙ last_of_more _ _ _ w.if-n-ge10.true (cc)
-      | else-n-ge10 w ↦ c.push.ensures.items ∙ last_of_one _ _ _ w.if-n-ge10.false (cc)
+      | then-n-ge10 w ↦ c.put_byte.ensures ∙ last_of_more _ _ _ (omega arith) (cc)
+      | else-n-ge10 w ↦ c.put_byte.ensures ∙ last_of_one _ _ _ (omega arith) (cc)
     ]

@@ -16,8 +16,8 @@ one_more line whole numbers i h e =
     let n = next_field numbers i h in
     simp append_assoc (ap (λ (l : List ℕ). line ++ l) (sym n) ∙ e)
 
-pub push-requires : goal.push-requires
-push-requires c =
+pub put_byte-requires : goal.put_byte-requires
+put_byte-requires c =
     let at = c.loop-n in
     let e = one_more at.line.items _ c.args.numbers.now at.n-index (omega arith) at.invariant in
     omega (arith, simp length-append at (ap length e))
@@ -26,12 +26,12 @@ pub put_number-requires : goal.put_number-requires
 put_number-requires c =
     let at = c.loop-n in
     let e = one_more at.line.items _ c.args.numbers.now at.n-index (omega arith) at.invariant in
-    omega (arith, simp length-append at (ap length e))
+    omega (arith, simp length-append at (ap length e), simp length-append at (ap length c.put_byte.ensures))
 
 pub loop-n-preserved : goal.loop-n-preserved
 loop-n-preserved c =
     let at = c.loop-n in
-    rw (c.put_number.ensures, c.push.ensures.items) (one_more at.line.items _ c.args.numbers.now at.n-index (omega arith) at.invariant)
+    rw (c.put_number.ensures, c.put_byte.ensures) (one_more at.line.items _ c.args.numbers.now at.n-index (omega arith) at.invariant)
 
 pub returns : goal.returns
 unfolding number_fields

@@ -1,6 +1,6 @@
 -- `panel::write` meets its contract: a request that is misplaced, a value that the search refuses, or an entry.
 -- Assumes nothing.
-use Rattle.std.proofs.Common.{◌≡◌, ◌<◌, ◌^◌, ℕ, List, true, false, eqb, refl, sym, ap, subst, ◌∙◌, arith}
+use Rattle.std.proofs.Common.{◌≡◌, ◌<◌, ◌^◌, ℕ, List, true, false, eqb, refl, sym, ap, subst, ◌∙◌, arith, rules}
 use borrow.Author.Tests.{eq-eqb, ne_eqb}
 use mir.Syntax.{w32}
 use lib.Signed.{mag}
@@ -13,7 +13,7 @@ use Rattle.held.specs.declared.Search.{Search}
 use Rattle.held.specs.declared.Entered.{Entered}
 use Rattle.held.specs.Held.{enter_of}
 use Rattle.registers.specs.Registers.{called_for}
-use Rattle.registers.specs.Exchange.{entry_of, signed_of, value_of}
+use Rattle.registers.specs.Exchange.{write_single, entry_of, exception_reply, signed_of, value_of}
 use Rattle.registers.specs.Inner.{exception_number}
 use Rattle.registers.proofs.ExchangeLaws.{writable, write_misplaced, write_refused, write_accepted}
 use Rattle.panel.proofs.write.Goals as goal
@@ -24,7 +24,7 @@ returns-in-Err c =
     let some : eqb (exception_number c.in-Err.exception) 0 ≡ false =
     ne_eqb _ _ (λ z. let wrong = e.ok.1 (sym e.err ∙ z) in (cc)) in
     rw (← write_misplaced c.args.search c.args.request.now (exception_number c.in-Err.exception) e.err some)
-    (record { reply = c.exception.ensures; search = refl })
+    (record { reply = c.exception.ensures ∙ ap (λ (n : ℕ). exception_reply write_single n) (search rules); search = refl })
 
 pub word_at-requires : goal.word_at-requires
 word_at-requires c = omega (arith, (writable _ (c.in_default.ensures.ok.0 refl)).long)

@@ -24,19 +24,18 @@ one_more reply bytes words whole i h k b e =
     let n = next_word words i h k in
     rw (append_assoc, b) (ap (λ (l : List ℕ). reply ++ l) n ∙ e)
 
-pub unwrap-requires : goal.unwrap-requires
-unwrap-requires c =
+pub put_text-requires : goal.put_text-requires
+put_text-requires c =
     let at = c.loop-word in
     let words = c.args.words.now in
     let e = one_more at.reply.items c.to_be_bytes.result words _ at.word-index (omega arith) (omega (arith, c.type_inv.words at.word-index))
     c.to_be_bytes.ensures at.invariant in
-    c.try_extend_from_slice.ensures.variant.1 (omega (arith, simp length-append at (ap length e), word_bytes_length words))
+    omega (arith, simp length-append at (ap length e), word_bytes_length words)
 
 pub loop-word-preserved : goal.loop-word-preserved
 loop-word-preserved c =
     let at = c.loop-word in
-    let put = rw c.unwrap.ensures at c.try_extend_from_slice.ensures.ok in
-    rw put
+    rw c.put_text.ensures
     (one_more at.reply.items c.to_be_bytes.result c.args.words.now _ at.word-index (omega arith) (omega (arith, c.type_inv.words at.word-index))
     c.to_be_bytes.ensures at.invariant)
 
