@@ -2,6 +2,7 @@
 #![tactic(auto)]
 
 ghost use Rattle.std.specs.Prelude.{◌≡◌, ◌<◌};
+ghost use Rattle.held.specs.Held.{reopen_of};
 ghost use Rattle.dispatching.specs.Dispatching.{dryers, fresh_dispatcher, with_search, raised, served_at, refused_with, settled_by};
 ghost use Rattle.dispatching.specs.Dispatching.{turn_of, opening_at, answer_at, dryer_report};
 
@@ -68,6 +69,16 @@ fn settled(d: Dispatcher, e: Entered, next: Dispatcher) -> Dispatched
     }
 }
 
+// A dryer's search made a fresh one of an opening, or the opening refused. It is no part of `open`: what stands behind the `else` there has its copy of
+// the dispatcher cleared before anything is looked at.
+fn reopened(d: Dispatcher, dryer: u32, search: Search, opening: Opening) -> Dispatched
+    requires { dryer < dryers }
+    ensures { result ≡ settled_by d (reopen_of search opening) (with_search d dryer (reopen_of search opening).search) }
+{
+    let e = search.reopen(opening);
+    settled(d, e, with_search(d, dryer, e.search))
+}
+
 // A dispatcher with no search, none served and every count 0.
 pub fn fresh() -> Dispatcher
     ensures { result ≡ fresh_dispatcher }
@@ -110,8 +121,7 @@ pub fn open(d: Dispatcher, dryer: u32, opening: Opening) -> Dispatched
     if turns::goes_on(&search) {
         return refused(d, rules::STILL_SEARCHING);
     }
-    let e = search.reopen(opening);
-    settled(d, e, with_search(d, dryer, e.search))
+    reopened(d, dryer, search, opening)
 }
 
 // An answer for a dryer: the turn is served, or the answer refused.

@@ -71,9 +71,13 @@ fn count_pairs(values: &[i32]) -> usize
     requires { 1 ≤ length values.now }
     ensures { result ≡ length (crossings_of values.now) }
 {
-    (0..values.len() - 1)
-        .filter(|i| crosses_at(values, *i))
-        .count()
+    let mut found: usize = 0;
+    for i in 0..values.len() - 1 {
+        if crosses_at(values, i) {
+            found += 1;
+        }
+    }
+    found
 }
 
 // Writes the lower points of these pairs to the beginning of a list that is long enough.

@@ -3,15 +3,14 @@
 -- Assumes nothing.
 use Rattle.std.specs.Prelude.{ℕ, zero, suc, ◌+◌, ◌-◌, ◌*◌, ◌≤◌, ◌<◌, ◌≡◌, refl, Bool, true, false, cond, not, ◌||◌, List}
 use Rattle.std.specs.Prelude.{[], ◌∷◌, ◌++◌, ltb, ℤ, pos, negsuc, nat_abs, ◌+ℤ◌, ◌*ℤ◌, length, get_or, drop, set, Result, Ok, Err, Some, None}
-use Rattle.std.proofs.Common.{sym, ap, ap₂, subst, ◌∙◌, append-nil, le_refl, le_trans, add-zero, zero-add, suc-add, suc-mul}
+use Rattle.std.proofs.Common.{sym, ap, ap₂, subst, ◌∙◌, append-nil, le_refl, le_trans, zero-add, suc-add, suc-mul}
 use Rattle.std.proofs.Common.{zero-mul, mul-le-mul, add-one, arith, length-append, length-set, drop-cons}
 use Rattle.std.proofs.lemmas.List.{map-append, length-map, set_at}
 use borrow.Author.Tests.{lt-ltb, le-ltb, ltb-false}
 use Rattle.std.proofs.Math.IntN.{+ℤ_idr}
 use Rattle.std.proofs.Math.Seq.{append_snoc}
 use Rattle.std.specs.Int.Signed.{lt_z}
-use Rattle.std.specs.List.{position, position_or_len, range_with_len, count_by}
-use Rattle.std.proofs.lemmas.List.Recursion.{is_count_by}
+use Rattle.std.specs.List.{position, position_or_len}
 use Rattle.integers.specs.Digits.{first_below, some_below}
 use Rattle.integers.proofs.DigitsLaws.{some_true, some_false, none_below}
 use Rattle.integers.specs.Lists.{filter}
@@ -155,28 +154,6 @@ crossings_onward vs i (suc k) = rw (suc-add k i) (le_trans (crossings_onward vs 
 
 crossings_within : (vs : List ℤ) (i n : ℕ) → i ≤ n → length (crossings_to vs i) ≤ length (crossings_to vs n)
 crossings_within vs i n h = subst (λ (k : ℕ). length (crossings_to vs i) ≤ length (crossings_to vs k)) (omega arith) (crossings_onward vs i (n - i))
-
--- the positions as a range counts them
-
-range_more : (a n : ℕ) → range_with_len a (suc n) ≡ range_with_len a n ++ ((a + n) ∷ [])
-range_more a zero = rw add-zero
-range_more a (suc n) = ap (λ (l : List ℕ). a ∷ l) (range_more (a + 1) n) ∙ ap (λ (k : ℕ). a ∷ (range_with_len (a + 1) n ++ (k ∷ []))) (omega arith)
-
-positions_range : (n : ℕ) → positions n ≡ range_with_len 0 n
-unfolding positions
-positions_range zero = refl
-positions_range (suc n) = ap (λ (l : List ℕ). l ++ (n ∷ [])) (positions_range n) ∙ sym (rw (zero-add n) at (range_more 0 n))
-
-filter_counted : {A : Type 0} (test : A → Bool) (xs : List A) → length (filter test xs) ≡ count_by test xs
-unfolding filter
-filter_counted {A = A} test xs = is_count_by (λ (l : List A). length (filter test l)) test refl (λ x l. go (test x) x (filter test l)) xs
-  where
-    go : (b : Bool) (x : A) (l : List A) → length (cond b (x ∷ l) l) ≡ cond b (1 + length l) (length l)
-    go true x l = omega arith
-    go false x l = refl
-
-pub crossings_counted : (vs : List ℤ) → count_by (crosses_at vs) (range_with_len 0 (length vs - 1)) ≡ length (crossings_of vs)
-crossings_counted vs = sym (filter_counted (crosses_at vs) (positions (length vs - 1)) ∙ ap (count_by (crosses_at vs)) (positions_range (length vs - 1)))
 
 pub points_length : (lowest pitch : ℤ) (is : List ℕ) → length (lower_points lowest pitch is) ≡ length is
 points_length lowest pitch is = length-map is (λ i. nat_abs (point_at lowest pitch i))

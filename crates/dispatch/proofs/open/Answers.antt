@@ -2,7 +2,6 @@
 -- Assumes nothing.
 use Rattle.std.proofs.Common.{sym, ap, ◌∙◌}
 use Rattle.held.specs.declared.Search.{Search}
-use Rattle.held.specs.declared.Entered.{Entered}
 use Rattle.held.specs.Held.{reopen_of}
 use Rattle.dispatching.specs.Dispatching.{unfinished, with_search, settled_by}
 use Rattle.dispatching.proofs.DispatchingLaws.{nowhere, there, opening_nowhere, opening_early, opening_due}
@@ -25,9 +24,7 @@ pub returns : goal.returns
 returns c =
     let s = c.args in
     let found = there s.d s.dryer _ c.in-Some.ensures in
-    c.settled.ensures
-    ∙ ap (settled_by s.d c.reopen-e.result) c.with_search.ensures
-    ∙ ap (λ (e : Entered). settled_by s.d e (with_search s.d s.dryer e.search))
-    (c.reopen-e.ensures ∙ ap (λ (h : Search). reopen_of h s.opening) found.1)
+    c.reopened.ensures
+    ∙ ap (λ (h : Search). settled_by s.d (reopen_of h s.opening) (with_search s.d s.dryer (reopen_of h s.opening).search)) found.1
     ∙ sym (opening_due s.d s.dryer s.opening found.0
     (sym (ap unfinished found.1) ∙ sym c.goes_on.ensures ∙ c.if-goes_on.false))
