@@ -1,6 +1,6 @@
 -- The laws of one exchange, from what its checks say: each exception by its case, a read, and a write.
 -- Assumes nothing.
-use Rattle.std.specs.Prelude.{ℕ, ◌+◌, ◌*◌, ◌≤◌, ◌≡◌, Bool, not, ◌&&◌, List, [], ◌∷◌, eqb, leb, ltb, length}
+use Rattle.std.specs.Prelude.{ℕ, ◌+◌, ◌*◌, ◌≤◌, ◌≡◌, Bool, not, ◌&&◌, List, [], ◌∷◌, eqb, leb, ltb, length, get_or}
 use Rattle.std.proofs.Math.Path.{refl, ap}
 use Rattle.std.proofs.Math.Bool.{true, false, cond}
 use Rattle.std.proofs.Common.{arith, eqb-true, leb-true, ltb-false, length-take, length-drop}
@@ -106,6 +106,17 @@ writable request h = go (eqb (length request) request_length) refl (eqb (address
     go false e b f h = absurd (omega arith)
     go true e false f h = absurd (omega arith)
     go true e true f h = record { long = eqb-true _ _ e; here = eqb-true _ _ f }
+
+-- five bytes one by one
+pub five_bytes : (request : List ℕ) → length request ≡ request_length
+    → get_or request 0 0 ∷ get_or request 1 0 ∷ get_or request 2 0 ∷ get_or request 3 0 ∷ get_or request 4 0 ∷ [] ≡ request
+five_bytes [] h = absurd (omega arith)
+five_bytes (a ∷ []) h = absurd (omega arith)
+five_bytes (a ∷ b ∷ []) h = absurd (omega arith)
+five_bytes (a ∷ b ∷ c ∷ []) h = absurd (omega arith)
+five_bytes (a ∷ b ∷ c ∷ d ∷ []) h = absurd (omega arith)
+five_bytes (a ∷ b ∷ c ∷ d ∷ e ∷ []) h = refl
+five_bytes (a ∷ b ∷ c ∷ d ∷ e ∷ f ∷ rest) h = absurd (omega arith)
 
 -- ---- how long replies are
 

@@ -10,6 +10,7 @@ use lib.Pow.{pow_mono}
 use Rattle.std.specs.Prelude.{Ok}
 use Rattle.integers.specs.Digits.{digits}
 use Rattle.integers.proofs.DigitsLaws.{digits_least}
+use Rattle.rules.specs.declared.Method.{Method}
 use Rattle.rules.specs.declared.Opening.{Opening}
 use Rattle.rules.specs.Rules.{slots, method_of, allowed}
 use Rattle.rules.specs.Refusals.{opening_refusal}
@@ -28,6 +29,10 @@ digits_leading k h =
     le_of_suc-le-suc
     (lt_of_not-le (λ (l : suc (digits k) ≤ s.0). omega (arith, pow_mono l, pow-suc 2 (digits k), d.holds, s.3))) in
     omega (arith, s.1)
+
+pub allowed_few : (m : Method) → allowed m ≤ 4
+allowed_few Method.M = omega arith
+allowed_few Method.R = omega arith
 
 -- ---- the quote, from the two numbers that make it
 

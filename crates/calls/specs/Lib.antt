@@ -1,0 +1,2 @@
+-- The modules of `specs/`.
+pub mod Stored

@@ -1,0 +1,2 @@
+-- The modules of `proofs/`.
+pub mod Laws
