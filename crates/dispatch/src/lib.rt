@@ -69,8 +69,8 @@ fn settled(d: Dispatcher, e: Entered, next: Dispatcher) -> Dispatched
     }
 }
 
-// A dryer's search made a fresh one of an opening, or the opening refused. It is no part of `open`: what stands behind the `else` there has its copy of
-// the dispatcher cleared before anything is looked at.
+// A dryer's search made a fresh one of an opening, or the opening refused. It is no part of `open`: what stands behind the `else` there has its
+// copy of the dispatcher cleared before anything is looked at.
 fn reopened(d: Dispatcher, dryer: u32, search: Search, opening: Opening) -> Dispatched
     requires { dryer < dryers }
     ensures { result ≡ settled_by d (reopen_of search opening) (with_search d dryer (reopen_of search opening).search) }

@@ -74,7 +74,8 @@ pub fn check_write(request: &[u8]) -> Result<(), Exception>
     Ok(())
 }
 
-// The check of a read as a number: its exception's, or 0.
+// The check of a read as a number: its exception's, or 0 for none. It stands beside the check, since it was promised to callers that know no `Result`:
+// it cannot fail.
 pub fn read_fault(request: &[u8]) -> u8
     ensures { result ≡ read_fault request.now }
 {
@@ -84,7 +85,7 @@ pub fn read_fault(request: &[u8]) -> u8
     }
 }
 
-// The check of a write as a number: its exception's, or 0.
+// The check of a write as a number, likewise.
 pub fn form_fault(request: &[u8]) -> u8
     ensures { result ≡ form_fault request.now }
 {
