@@ -101,6 +101,7 @@ pub fn panel(search: Search, request: &[u8], reply: &mut [u8]) -> Exchanged
         };
     }
     let told = respond(search, request);
+    // taken out first: lent from where it stands, it would keep the search beside it in memory, and a call took a quarter more stack
     let made = told.reply;
     let length = printing::place_text(made.as_slice(), reply) as u32;
     Exchanged {

@@ -66,7 +66,8 @@ fn crosses_at(values: &[i32], i: usize) -> bool
     comparisons::opposed(values[i], values[i + 1])
 }
 
-// How many neighbouring pairs have a zero or negative product.
+// How many neighbouring pairs have a zero or negative product. By `for`, not by `filter` and `count`: of that chain the compiler makes no loop that
+// looks at several values at once.
 fn count_pairs(values: &[i32]) -> usize
     requires { 1 ≤ length values.now }
     ensures { result ≡ length (crossings_of values.now) }
